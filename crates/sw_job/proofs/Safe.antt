@@ -1,0 +1,109 @@
+-- Typed code is never stuck, and each step of it leaves fewer instructions ahead.
+use Rattle.std.proofs.Common.{◌≡◌, ℕ, zero, suc, ◌+◌, ◌<◌, ◌≤◌, List, [], ◌∷◌, Option, Some, None, Bool, true, false, refl, sym, ap, ◌∙◌, subst, arith, drop}
+use Rattle.std.specs.Prelude.{slice_get, nat_lt, if◌then◌else◌}
+use Rattle.std.proofs.lemmas.Bool.{ltb-true, ltb-false}
+use Rattle.std.proofs.lemmas.Option.{slice_get_within}
+use Rattle.sw_job.specs.declared.value.Value.{Value}
+use Rattle.sw_job.specs.declared.value.Value.TheVariants.{Str, Void}
+use Rattle.sw_job.specs.declared.value.Ty.{Ty}
+use Rattle.sw_job.specs.declared.value.Ty.TheVariants.{Str as StrTy, Void as VoidTy}
+use Rattle.sw_job.specs.declared.instr.Instr.{Instr}
+use Rattle.sw_job.specs.declared.instr.Instr.TheVariants.{Begin, PushStr, Print, Take, Discard, ReturnVoid}
+use Rattle.sw_job.specs.declared.turn.Operand.{Operand}
+use Rattle.sw_job.specs.declared.turn.Operand.TheVariants.{Value as Operation}
+use Rattle.sw_job.specs.declared.turn.Frame.{Frame}
+use Rattle.sw_job.specs.declared.turn.Ask.TheVariants.{Print as AskPrint}
+use Rattle.sw_job.specs.declared.turn.Exit.TheVariants.{Ask, Slice}
+use Rattle.sw_job.specs.declared.turn.Given.TheVariants.{Nothing, Value as GivenValue}
+use Rattle.sw_job.specs.declared.code.FuncCode.{FuncCode}
+use Rattle.sw_job.specs.Machine.{frame, instr_in, fetch, is_take, printed, CodeNext, CodeGoes, CodeStops, CodeBad, on_value, on_text, at_take, not_take, code_give, code_act, code_act_at, code_step, code_then, code_run, code_begin, CodeStuck}
+use Rattle.sw_job.specs.Typed.{ty_of, types_of, result_of, Goes, Waits, Agrees, IsTyped, TypedCallers, TypedFrames, NeverStuck, size_of, ahead, all_ahead, Safe, EachStepIsSafe, Begins, EachStartBegins}
+
+-- a place with an instruction is before the end
+fetch_within : (func : Option FuncCode) (p : ℕ) (i : Instr) → instr_in func p ≡ Some i → p < size_of func
+fetch_within None p i e = absurd (cc)
+fetch_within (Some func) p i e = slice_get_within func.instrs p i e
+
+types_of-drop : (count : ℕ) (operands : List Operand) → types_of (drop count operands) ≡ drop count (types_of operands)
+types_of-drop zero operands = refl
+types_of-drop (suc count) [] = refl
+types_of-drop (suc count) (Operation v ∷ operands) = types_of-drop count operands
+
+-- where no value is awaited, a start without a value goes on
+goes_on : (i : Option Instr) (next : CodeNext) → is_take i ≡ false → not_take i next ≡ next
+goes_on None next e = refl
+goes_on (Some Begin) next e = refl
+goes_on (Some (PushStr text)) next e = refl
+goes_on (Some Print) next e = refl
+goes_on (Some Take) next e = absurd (cc)
+goes_on (Some (Discard count)) next e = refl
+goes_on (Some ReturnVoid) next e = refl
+
+module _ (code : List FuncCode) (typed : IsTyped code) where
+  -- to the next place of the same frame
+  onward : (max f p : ℕ) (i : Instr) (o : List Operand) (types : List Ty) (ms : List Frame) (n n' : ℕ) → fetch code f p ≡ Some i → types_of o ≡ types → Goes code f (p + 1) types → TypedCallers code (result_of code f) ms → n' ≤ n + 1 → n' ≤ max → Safe code max (ahead code f p + all_ahead code ms) n (CodeGoes (frame f (p + 1) o) ms n')
+  onward max f p i o types ms n n' e t g callers one most =
+      let within = fetch_within (slice_get code f) p i e in
+      ((subst (λ z. Goes code f (p + 1) z) (sym t) g, callers), record { fewer = omega arith; counts = one; within = most })
+
+  -- a value for callers that await one of its type
+  give_safe : (max before n : ℕ) (v : Value) (ms : List Frame) → n ≤ max → TypedCallers code (ty_of v) ms → all_ahead code ms < before → Safe code max before n (code_give code v ms n)
+  give_safe max before n v [] most callers l = (refl, l, refl)
+  give_safe max before n v (m ∷ ms) most callers l =
+      let waits = callers.0 in
+      let within = fetch_within (slice_get code m.func.0) m.place Take waits.0 in
+      subst (λ z. Safe code max before n (at_take z (CodeGoes (frame m.func.0 (m.place + 1) (Operation v ∷ m.operands)) ms n))) (sym waits.0) ((waits.2, callers.1), record { fewer = omega arith; counts = omega arith; within = most })
+
+  instr_safe : (max f p : ℕ) (i : Instr) (o : List Operand) (ms : List Frame) (n : ℕ) → n ≤ max → fetch code f p ≡ Some i → Goes code f p (types_of o) → TypedCallers code (result_of code f) ms → Agrees code f p i (types_of o) → Safe code max (ahead code f p + all_ahead code ms) n (code_act code max i f p o ms n)
+  instr_safe max f p Begin o ms n most e g callers agrees = by (nat_lt n max) (ltb-true n max) (ltb-false n max)
+    where
+      by : (z : Bool) → (z ≡ true → n < max) → (z ≡ false → max ≤ n) → Safe code max (ahead code f p + all_ahead code ms) n (if z then CodeGoes (frame f (p + 1) o) ms (n + 1) else CodeStops Slice (frame f p o ∷ ms) n)
+      by true below over = let less = below refl in onward max f p Begin o (types_of o) ms n (n + 1) e refl agrees callers (omega arith) (omega arith)
+      by false below over = ((g, callers), (refl, over refl), refl)
+  instr_safe max f p (PushStr text) o ms n most e g callers agrees = onward max f p (PushStr text) (Operation (Str text) ∷ o) (StrTy ∷ types_of o) ms n n e refl agrees callers (omega arith) most
+  instr_safe max f p Print o ms n most e g callers agrees = by o agrees.1
+    where
+      by : (o : List Operand) → types_of o ≡ StrTy ∷ agrees.0 → Safe code max (ahead code f p + all_ahead code ms) n (on_value o (λ v rest. on_text (printed v) (λ text. CodeStops (Ask (AskPrint text)) (frame f (p + 1) rest ∷ ms) n)))
+      by [] t = absurd (cc)
+      by (Operation Void ∷ rest) t = absurd (cc)
+      by (Operation (Str text) ∷ rest) t =
+          let within = fetch_within (slice_get code f) p Print e in
+          let rest_types : agrees.0 ≡ types_of rest = cc in
+          ((subst (λ z. Waits code f (p + 1) VoidTy z) rest_types agrees.2, callers), omega arith, refl)
+  instr_safe max f p Take o ms n most e g callers agrees = let awaits : true ≡ false = sym (ap is_take e) ∙ g.1 in absurd (cc)
+  instr_safe max f p (Discard count) o ms n most e g callers agrees = onward max f p (Discard count) (drop count o) (drop count (types_of o)) ms n n e (types_of-drop count o) agrees.1 callers (omega arith) most
+  instr_safe max f p ReturnVoid o ms n most e g callers agrees =
+      let within = fetch_within (slice_get code f) p ReturnVoid e in
+      give_safe max (ahead code f p + all_ahead code ms) n Void ms most (subst (λ z. TypedCallers code z ms) agrees callers) (omega arith)
+
+  pub each_step_is_safe : EachStepIsSafe code
+  each_step_is_safe max m ms n most frames =
+      let i = typed.within m.func.0 m.place (types_of m.operands) frames.0.0 in
+      let agrees = typed.each m.func.0 m.place i.0 (types_of m.operands) i.1 frames.0.0 in
+      subst (λ z. Safe code max (all_ahead code (m ∷ ms)) n (code_act_at code max z m.func.0 m.place m.operands ms n)) (sym i.1) (instr_safe max m.func.0 m.place i.0 m.operands ms n most i.1 frames.0 frames.1 agrees)
+
+  pub each_start_begins : EachStartBegins code
+  each_start_begins given [] start = absurd start
+  each_start_begins Nothing (m ∷ ms) start = subst (λ z. Begins code (all_ahead code (m ∷ ms)) z) (sym (goes_on (fetch code m.func.0 m.place) (CodeGoes m ms 0) start.0.1)) (start, omega arith, refl)
+  each_start_begins (GivenValue v) (m ∷ ms) start =
+      let waits = start.0 in
+      let within = fetch_within (slice_get code m.func.0) m.place Take waits.0 in
+      subst (λ z. Begins code (all_ahead code (m ∷ ms)) (at_take z (CodeGoes (frame m.func.0 (m.place + 1) (Operation v ∷ m.operands)) ms 0))) (sym waits.0) ((waits.2, start.1), omega arith, refl)
+
+  -- a run of typed frames is never stuck
+  run_goes : (max steps : ℕ) (m : Frame) (ms : List Frame) (n : ℕ) → n ≤ max → TypedFrames code m ms → code_run code max steps m ms n ≡ CodeStuck → ⊥
+  run_goes max zero m ms n most frames e = cc
+  run_goes max (suc steps) m ms n most frames e = by (code_step code max m ms n) (run_goes max steps) (each_step_is_safe max m ms n most frames) e
+    where
+      by : (next : CodeNext) → ((m1 : Frame) (ms1 : List Frame) (n1 : ℕ) → n1 ≤ max → TypedFrames code m1 ms1 → code_run code max steps m1 ms1 n1 ≡ CodeStuck → ⊥) → Safe code max (all_ahead code (m ∷ ms)) n next → code_then next (code_run code max steps) ≡ CodeStuck → ⊥
+      by (CodeGoes m1 ms1 n1) later safe h = later m1 ms1 n1 safe.1.within safe.0 h
+      by (CodeStops exit ms1 n1) later safe h = cc
+      by CodeBad later safe h = safe
+
+  pub never_stuck : NeverStuck code
+  never_stuck given max frames start reaches = by (code_begin code given frames) (each_start_begins given frames start) reaches.1
+    where
+      by : (next : CodeNext) → Begins code (all_ahead code frames) next → code_then next (code_run code max reaches.0) ≡ CodeStuck → ⊥
+      by (CodeGoes m ms n) begins h = let none = begins.2 in run_goes max reaches.0 m ms n (omega arith) begins.0 h
+      by (CodeStops exit ms n) begins h = cc
+      by CodeBad begins h = begins

@@ -1,0 +1,109 @@
+-- What the job machine does with code: one instruction, a run, and what the start of a turn hands in.
+use Rattle.std.specs.Prelude.{◌≡◌, ℕ, zero, suc, ◌+◌, nat_lt, List, [], ◌∷◌, Option, Some, None, drop, slice_get, Bool, true, false, if◌then◌else◌}
+use Rattle.sw_job.specs.declared.value.Value.{Value}
+use Rattle.sw_job.specs.declared.value.Value.TheVariants.{Str, Void}
+use Rattle.sw_job.specs.declared.instr.Instr.{Instr}
+use Rattle.sw_job.specs.declared.instr.Instr.TheVariants.{Begin, PushStr, Print, Take, Discard, ReturnVoid}
+use Rattle.sw_job.specs.declared.turn.Operand.{Operand}
+use Rattle.sw_job.specs.declared.turn.Operand.TheVariants.{Value as Operation}
+use Rattle.sw_job.specs.declared.turn.Frame.{Frame}
+use Rattle.sw_job.specs.declared.turn.Ask.TheVariants.{Print as AskPrint}
+use Rattle.sw_job.specs.declared.turn.Exit.{Exit}
+use Rattle.sw_job.specs.declared.turn.Exit.TheVariants.{Ask, Return, Slice}
+use Rattle.sw_job.specs.declared.turn.Given.{Given}
+use Rattle.sw_job.specs.declared.turn.Given.TheVariants.{Nothing, Value as GivenValue}
+use Rattle.sw_job.specs.declared.code.FuncCode.{FuncCode}
+
+abbrev pub frame : ℕ → ℕ → List Operand → Frame
+frame func place operands = record { func = record { 0 = func }; place = place; operands = operands }
+
+abbrev pub instr_in : Option FuncCode → ℕ → Option Instr
+instr_in None place = None
+instr_in (Some f) place = slice_get f.instrs place
+
+-- the instruction at a place of a func
+abbrev pub fetch : List FuncCode → ℕ → ℕ → Option Instr
+fetch code func place = instr_in (slice_get code func) place
+
+-- the text of a value that can be printed
+abbrev pub printed : Value → Option (List ℕ)
+printed (Str text) = Some text
+printed Void = None
+
+-- what an instruction leads to: a frame over its callers with the statements begun so far; or an exit, with
+-- the frames that are left; or nothing, where it has no meaning
+pub data CodeNext : Type 0 where
+  CodeGoes : Frame → List Frame → ℕ → CodeNext
+  CodeStops : Exit → List Frame → ℕ → CodeNext
+  CodeBad : CodeNext
+
+abbrev pub on_value : List Operand → (Value → List Operand → CodeNext) → CodeNext
+on_value [] go = CodeBad
+on_value (Operation v ∷ operands) go = go v operands
+
+abbrev pub on_text : Option (List ℕ) → (List ℕ → CodeNext) → CodeNext
+on_text None go = CodeBad
+on_text (Some text) go = go text
+
+abbrev pub is_take : Option Instr → Bool
+is_take (Some Take) = true
+is_take _ = false
+
+abbrev pub at_take : Option Instr → CodeNext → CodeNext
+at_take (Some Take) next = next
+at_take _ next = CodeBad
+
+abbrev pub not_take : Option Instr → CodeNext → CodeNext
+not_take (Some Take) next = CodeBad
+not_take _ next = next
+
+-- a value for the frame that awaits it, or for the caller of all
+abbrev pub code_give : List FuncCode → Value → List Frame → ℕ → CodeNext
+code_give code v [] begun = CodeStops (Return v) [] begun
+code_give code v (m ∷ ms) begun =
+    at_take (fetch code m.func.0 m.place) (CodeGoes (frame m.func.0 (m.place + 1) (Operation v ∷ m.operands)) ms begun)
+
+-- one instruction, of the func f at the place p; max statements may begin
+abbrev pub code_act : List FuncCode → ℕ → Instr → ℕ → ℕ → List Operand → List Frame → ℕ → CodeNext
+code_act code max Begin f p o ms n =
+    if nat_lt n max then CodeGoes (frame f (p + 1) o) ms (n + 1) else CodeStops Slice (frame f p o ∷ ms) n
+code_act code max (PushStr text) f p o ms n = CodeGoes (frame f (p + 1) (Operation (Str text) ∷ o)) ms n
+code_act code max Print f p o ms n =
+    on_value o (λ v rest. on_text (printed v) (λ text. CodeStops (Ask (AskPrint text)) (frame f (p + 1) rest ∷ ms) n))
+code_act code max Take f p o ms n = CodeBad
+code_act code max (Discard count) f p o ms n = CodeGoes (frame f (p + 1) (drop count o)) ms n
+code_act code max ReturnVoid f p o ms n = code_give code Void ms n
+
+abbrev pub code_act_at : List FuncCode → ℕ → Option Instr → ℕ → ℕ → List Operand → List Frame → ℕ → CodeNext
+code_act_at code max None f p o ms n = CodeBad
+code_act_at code max (Some i) f p o ms n = code_act code max i f p o ms n
+
+abbrev pub code_step : List FuncCode → ℕ → Frame → List Frame → ℕ → CodeNext
+code_step code max m ms n = code_act_at code max (fetch code m.func.0 m.place) m.func.0 m.place m.operands ms n
+
+-- where a run of so many instructions comes to: its exit, with the frames that are left and the statements
+-- begun; or it is still open; or it is stuck
+pub data CodeEnd : Type 0 where
+  CodeEnds : Exit → List Frame → ℕ → CodeEnd
+  CodeOpen : CodeEnd
+  CodeStuck : CodeEnd
+
+abbrev pub code_then : CodeNext → (Frame → List Frame → ℕ → CodeEnd) → CodeEnd
+code_then (CodeGoes m ms n) go = go m ms n
+code_then (CodeStops exit ms n) go = CodeEnds exit ms n
+code_then CodeBad go = CodeStuck
+
+-- at most so many instructions
+abbrev pub code_run : List FuncCode → ℕ → ℕ → Frame → List Frame → ℕ → CodeEnd
+code_run code max zero m ms n = CodeOpen
+code_run code max (suc steps) m ms n = code_then (code_step code max m ms n) (code_run code max steps)
+
+-- a start hands a value to the frame that awaits it, or nothing to one that awaits none
+abbrev pub code_begin : List FuncCode → Given → List Frame → CodeNext
+code_begin code given [] = CodeBad
+code_begin code Nothing (m ∷ ms) = not_take (fetch code m.func.0 m.place) (CodeGoes m ms 0)
+code_begin code (GivenValue v) (m ∷ ms) = code_give code v (m ∷ ms) 0
+
+-- the code's turn of at most max statements comes to this
+abbrev pub CodeReaches : List FuncCode → ℕ → Given → List Frame → CodeEnd → Type 0
+CodeReaches code max given frames end = (steps : ℕ) × (code_then (code_begin code given frames) (code_run code max steps) ≡ end)

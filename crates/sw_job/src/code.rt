@@ -1,0 +1,72 @@
+//! Code of funcs, whose operand types agree.
+
+ghost use Rattle.std.specs.Prelude.{◌≡◌, slice_get};
+ghost use Rattle.std.specs.Option.{option_copied};
+
+use crate::instr::Instr;
+use crate::value::Ty;
+use std::marker::Model;
+use sw_base::{FuncNo, Items};
+
+/// The code of one func.
+#[derive(Debug, PartialEq, Drop)]
+pub struct FuncCode {
+    /// The type of what the func gives.
+    pub result: Ty,
+    /// What the func does, from its first place on.
+    pub instrs: Items<Instr>,
+    /// Before each instruction, the types of the operands, the newest first.
+    pub shapes: Items<Items<Ty>>,
+}
+
+/// The code of a program's funcs, by their numbers. Its operand types agree at each instruction.
+#[derive(Debug, Drop)]
+pub struct Code {
+    funcs: Items<FuncCode>,
+}
+
+impl Model for Code {
+    ghost use Rattle.std.specs.Prelude.{List};
+    ghost use Rattle.sw_job.specs.declared.code.FuncCode.{FuncCode};
+
+    ghost Value = { List FuncCode };
+
+    ghost view = { λ c. c.funcs };
+
+    ghost use Rattle.sw_job.specs.Typed.{IsTyped};
+
+    ghost invariant = { λ c. IsTyped c.funcs };
+}
+
+impl Code {
+    ghost use Rattle.sw_job.specs.Typed.{IsTyped, NeverStuck, EachStepIsSafe, EachStartBegins};
+
+    /// The code of these funcs, whose operand types agree.
+    pub fn new(funcs: Items<FuncCode>) -> Code
+        requires { IsTyped funcs }
+        ensures { result ≡ funcs }
+    {
+        Code { funcs }
+    }
+
+    /// The code of a func; none past the last.
+    pub fn func(&self, func: FuncNo) -> Option<&FuncCode>
+        ensures func { option_copied result ≡ slice_get self.now func.0 }
+        ensures typed { IsTyped self.now }
+        ensures never_stuck { NeverStuck self.now }
+    {
+        self.funcs().get(func.0 as usize)
+    }
+
+    /// The code of all funcs, with what holds of typed code: a turn begins from each start that is typed
+    /// for it, each step of the turn is safe, and none is stuck.
+    pub fn funcs(&self) -> &[FuncCode]
+        ensures value { result.now ≡ self.now }
+        ensures typed { IsTyped self.now }
+        ensures starts { EachStartBegins self.now }
+        ensures steps { EachStepIsSafe self.now }
+        ensures never_stuck { NeverStuck self.now }
+    {
+        self.funcs.as_slice()
+    }
+}

@@ -1,0 +1,20 @@
+//! The instructions of the job machine.
+
+use sw_base::Text;
+
+/// One instruction. What it takes are the newest operands of its frame, what it gives becomes the newest.
+#[derive(Debug, PartialEq, Drop)]
+pub enum Instr {
+    /// A statement begins here. Where no more may begin in this turn, the turn ends just before it.
+    Begin,
+    /// Gives a string.
+    PushStr(Text),
+    /// Takes a value and asks to print it. What the ask gives is awaited at the next instruction.
+    Print,
+    /// Stands where a value is awaited, and is passed as the value is given.
+    Take,
+    /// Takes so many operands.
+    Discard(usize),
+    /// Ends the func without a value.
+    ReturnVoid,
+}

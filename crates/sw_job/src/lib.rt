@@ -1,0 +1,16 @@
+//! What a job is made of: the code of funcs with the operand types at each place, and what a turn of a
+//! job starts from and ends with.
+#![tactic(auto)]
+
+mod code;
+mod instr;
+mod turn;
+mod value;
+
+pub use code::{Code, FuncCode};
+pub use instr::Instr;
+pub use turn::{Ask, Exit, Frame, Frames, Given, Operand, TurnEnd, TurnStart};
+pub use value::{Ty, Value};
+
+#[cfg(test)]
+mod tests;
