@@ -1,0 +1,15 @@
+pub mod SourceLemmas
+pub mod ReportLemmas
+pub mod TopLemmas
+pub mod LoweringLemmas
+pub mod Reaches
+pub mod Track
+pub mod Follow
+pub mod Cases
+pub mod Runs
+pub mod Whole
+pub mod HistoryLemmas
+pub mod Typing
+pub mod WorldLemmas
+pub mod TurnLemmas
+pub mod RunLemmas

@@ -1,0 +1,17 @@
+use Rattle.std.proofs.Common.{◌≡◌, map, sym, subst, arith}
+use Rattle.std.proofs.lemmas.Grind.{common_steps}
+use Rattle.sw_job.specs.Typed.{IsTyped}
+use Rattle.swda.specs.Codes.{func_code}
+use Rattle.swda.proofs.Typing.{typed_map}
+use Rattle.swda.proofs.Whole.{carries_map}
+use Rattle.swda.proofs.lowering.lower.Goals as goal
+
+pub new-code-requires : goal.new-code-requires
+new-code-requires c =
+    let e : c.loop-func.funcs ≡ map func_code c.args.tree.now.funcs = grind (arith, common_steps) in
+    subst IsTyped (sym e) (typed_map c.args.tree.now.funcs)
+
+pub returns : goal.returns
+returns c =
+    let e : c.new-code.result ≡ map func_code c.args.tree.now.funcs = grind (arith, common_steps) in
+    carries_map c.args.tree.now.funcs c.new-code.result e c.funcs-2.ensures.never_stuck

@@ -1,0 +1,13 @@
+use Rattle.std.proofs.Common.{◌≡◌}
+use Rattle.swda.specs.World.{job_ahead}
+use Rattle.swda.proofs.world.World.drive.Given as goal
+
+-- the code and the root task stay
+abbrev pub invariant-loop-event : goal.invariant-loop-event
+invariant-loop-event l = record {
+  code : l.self.code ≡ l.fn.self.code;
+  main : l.self.main ≡ l.fn.self.main;
+}
+
+abbrev pub decreases-loop-event : goal.decreases-loop-event
+decreases-loop-event l = job_ahead l.self.code l.self.job

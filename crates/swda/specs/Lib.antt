@@ -1,0 +1,13 @@
+pub mod Meaning
+pub mod Codes
+pub mod Carries
+pub mod State
+pub mod History
+pub mod Turn
+pub mod World
+pub mod Source
+pub mod Lines
+pub mod Report
+pub mod Answers
+pub mod Rows
+pub mod ExitCodes

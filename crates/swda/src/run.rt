@@ -1,0 +1,53 @@
+//! One run: from the body of a main to the report of its world.
+
+ghost use Rattle.std.specs.Prelude.{◌≡◌, ◌∷◌, [], IfOk, length};
+ghost use Rattle.swda.specs.Source.{main_func, main_tree};
+ghost use Rattle.swda.specs.Report.{report_text};
+ghost use Rattle.swda.specs.World.{state_of};
+ghost use Rattle.swda.specs.Answers.{Reports};
+
+use crate::lowering::lower;
+use crate::reports::{push_counts, push_log, push_node_line, push_task_line};
+use crate::world::World;
+use std::alloc::Global;
+use sw_base::{FuncNo, Items, NoMemory, Text};
+use sw_tree::{Func, Stmt, Tree};
+
+/// The number of the func of the root task.
+const MAIN: FuncNo = FuncNo(0);
+
+// The tree of a source whose one func is the root task's.
+fn main_tree(alloc: Global, body: Items<Stmt>) -> Result<Tree, NoMemory>
+    ensures { IfOk result (λ tree. tree ≡ main_tree body) }
+{
+    let name = Text::from_bytes(alloc, b"main")?;
+    let mut funcs = Items::new(alloc);
+    funcs.push(Func { name, body })?;
+    Ok(Tree { funcs })
+}
+
+// The report of a world.
+fn report(alloc: Global, world: &World) -> Result<Text, NoMemory>
+    ensures { IfOk result (λ text. text ≡ report_text (state_of world.now.job world.now.log world.now.begun []) (length world.now.history)) }
+{
+    let mut out = Text::from_bytes(alloc, b"end done\n")?;
+    push_counts(alloc, &mut out, world.begun(), world.history().len() as u64)?;
+    push_node_line(alloc, &mut out, 0, 0)?;
+    push_log(alloc, &mut out, 0, world.log())?;
+    push_task_line(alloc, &mut out, &world.task())?;
+    Ok(out)
+}
+
+/// Lowers the main of this body, drives its world to the end, and writes the report.
+pub fn report_of(alloc: Global, body: Items<Stmt>) -> Result<Text, NoMemory>
+    ensures { IfOk result (λ text. Reports (main_func body) text) }
+{
+    let tree = main_tree(alloc, body)?;
+    let code = lower(alloc, &tree)?;
+    let mut world = World::new(alloc, code, MAIN)?;
+    world.drive()?;
+    // What happened is the legal history of the tree.
+    let _ = world.history();
+    let text = report(alloc, &world)?;
+    Ok(text)
+}

@@ -1,0 +1,210 @@
+//! The top call: from the words of a call to its status, over a loader and a sink.
+
+ghost use Rattle.std.specs.Prelude.{◌≡◌, ◌≢◌, ◌⊎◌, ℕ, ◌≤◌, List, Some, IfOk, MatchOption};
+ghost use Rattle.sw_tree.specs.declared.Stmt.{Stmt};
+ghost use Rattle.sw_outside.specs.Causes.{Rose};
+ghost use Rattle.swda.specs.Source.{Spells, IsNotThin};
+ghost use Rattle.swda.specs.Answers.{run_words, plan_text, usage_text, load_fault_text, not_built_text, with_text, IsNoForm, RunSays, Says, WritesFront, Answers};
+ghost use Rattle.swda.specs.Rows.{DoneRow, LoadFaultRow, NotBuiltRow, AsksBoth, IsDoneOrFault, IsUsageOrFault, IsNotBuiltOrFault};
+
+use crate::output::write_all;
+use crate::run::report_of;
+use crate::source::read;
+use crate::status::Status;
+use std::alloc::Global;
+use sw_base::{Duplicate, NoMemory, Text};
+use sw_outside::{Failed, LoadError, Loader, Sink};
+
+const USAGE: &[u8] =
+    b"usage: swda check FILE | list FILE | run FILE PLAN | replay FILE PLAN SCHEDULE | threads FILE PLAN WORKERS | gen SEED SIZE\n";
+
+const PLAN: &[u8] = b"swda-plan 1\nnodes 1\ntask 0 main\n";
+
+const NOT_BUILT: &[u8] = b"not built\n";
+
+/// A status with the text that is to be written.
+#[derive(Drop)]
+struct Said {
+    status: Status,
+    text: Text,
+}
+
+/// The file and the plan of the form `run FILE PLAN`; none where the words are of another form.
+fn run_form(words: &[Text]) -> Option<(&Text, &Text)>
+    ensures { MatchOption result (IsNoForm words.now) (λ r. words.now ≡ run_words r.0.now r.1.now) }
+{
+    match words {
+        [command, file, plan] if command.as_bytes() == b"run".as_slice() => Some((file, plan)),
+        _ => None,
+    }
+}
+
+/// What is said where the words are of no form.
+fn usage(alloc: Global) -> Result<Said, NoMemory>
+    ensures { IfOk result (λ said. (said.status ≡ Status.Usage) × (said.text ≡ usage_text)) }
+{
+    Ok(Said {
+        status: Status::Usage,
+        text: Text::from_bytes(alloc, USAGE)?,
+    })
+}
+
+/// What is said where the file of this name could not be loaded.
+fn load_fault(alloc: Global, name: &Text) -> Result<Said, NoMemory>
+    ensures { IfOk result (λ said. (said.status ≡ Status.LoadFault name.now) × (said.text ≡ load_fault_text name.now)) }
+{
+    let mut text = Text::from_bytes(alloc, b"load fault ")?;
+    text.push_all(name.as_bytes())?;
+    text.push_all(b"\n")?;
+    Ok(Said {
+        status: Status::LoadFault { name: name.copy()? },
+        text,
+    })
+}
+
+/// What is said where the source or the plan is beyond what is built so far.
+fn not_built(alloc: Global) -> Result<Said, NoMemory>
+    ensures { IfOk result (λ said. (said.status ≡ Status.NotBuilt) × (said.text ≡ not_built_text)) }
+{
+    Ok(Said {
+        status: Status::NotBuilt,
+        text: Text::from_bytes(alloc, NOT_BUILT)?,
+    })
+}
+
+/// What is said of the run of a source under a plan.
+fn run(alloc: Global, source: &[u8], plan: &[u8]) -> Result<Said, NoMemory>
+    ensures { IfOk result (λ said. RunSays source.now plan.now said.status said.text) }
+{
+    if plan != PLAN {
+        return not_built(alloc);
+    }
+    let Some(body) = read(alloc, source)? else {
+        return not_built(alloc);
+    };
+    Ok(Said {
+        status: Status::Done,
+        text: report_of(alloc, body)?,
+    })
+}
+
+/// What is said of a call, from its words and what the loader gives. The files are asked in the order of the words.
+fn outcome<L: Loader>(alloc: Global, words: &[Text], loader: &mut L) -> Result<Said, NoMemory>
+    ensures says { IfOk result (λ said. Says (record {
+      words = words.now;
+      holds = L.holds loader.old;
+      asked = L.asked loader.old;
+      asked' = L.asked loader.new;
+      faults = L.faults loader.old;
+      faults' = L.faults loader.new;
+    }) said.status said.text) }
+    ensures later { L.faults loader.old ≤ L.faults loader.new }
+{
+    let Some((file, plan)) = run_form(words) else {
+        return usage(alloc);
+    };
+    let source = match loader.load(file) {
+        Ok(source) => source,
+        Err(LoadError::Failed) => return load_fault(alloc, file),
+        Err(LoadError::NoMemory) => return Err(NoMemory),
+    };
+    let plan_text = match loader.load(plan) {
+        Ok(plan_text) => plan_text,
+        Err(LoadError::Failed) => return load_fault(alloc, plan),
+        Err(LoadError::NoMemory) => return Err(NoMemory),
+    };
+    let said = run(alloc, source.as_bytes(), plan_text.as_bytes())?;
+    Ok(said)
+}
+
+/// The status of a call, whose text is built whole before its first byte is written.
+fn answer<L: Loader, S: Sink>(alloc: Global, words: &[Text], loader: &mut L, sink: &mut S) -> Status
+    ensures answer { Answers (record {
+      words = words.now;
+      holds = L.holds loader.old;
+      asked = L.asked loader.old;
+      asked' = L.asked loader.new;
+      faults = L.faults loader.old;
+      faults' = L.faults loader.new;
+    })
+        (record {
+          taken = S.taken sink.old;
+          taken' = S.taken sink.new;
+          faults = S.faults sink.old;
+          faults' = S.faults sink.new;
+        }) result }
+    ensures loads { L.faults loader.old ≤ L.faults loader.new }
+    ensures writes { S.faults sink.old ≤ S.faults sink.new }
+{
+    match outcome(alloc, words, loader) {
+        Err(NoMemory) => Status::WantOfMemory,
+        Ok(said) => match write_all(sink, said.text.as_bytes()) {
+            Ok(()) => said.status,
+            Err(Failed) => Status::WriteFault,
+        },
+    }
+}
+
+/// Does all that the program does: serves the words, from the files that the loader gives to the text that the
+/// sink takes, and answers how the call has ended.
+///
+/// The words are those of the command line, without the program's name. The statuses, each with the text that the
+/// sink has taken:
+///
+/// - `Done`: the words are `run FILE PLAN`, the loader gave both files, the source is a thin one and the plan is the
+///   one that is served. The text is the report of the run.
+/// - `Usage`: the words are of no form. The text lists the forms, and no file was asked.
+/// - `LoadFault`: the loader failed at the file word with this name. The text names it.
+/// - `NotBuilt`: the loader gave both files, and the source is no thin one or the plan is another one. The text is
+///   `not built`.
+/// - `WriteFault`: the sink failed. It has taken a front of the text that another status would have had.
+/// - `WantOfMemory`: memory was wanted. The sink has taken nothing. No clause says when it comes.
+pub fn swda<L: Loader, S: Sink>(
+    alloc: Global,
+    words: &[Text],
+    loader: &mut L,
+    sink: &mut S,
+) -> Status
+    // 0: exactly on these words and files, up to faults and want of memory
+    ensures done { result ≡ Status.Done → DoneRow words.now (L.holds loader.old) (S.taken sink.old) (S.taken sink.new) }
+    ensures done_completes { (file plan source : List ℕ) (body : List Stmt) → words.now ≡ run_words file plan
+        → L.holds loader.old file ≡ Some source → L.holds loader.old plan ≡ Some plan_text
+        → Spells source body → IsDoneOrFault result }
+    ensures asked { result ≡ Status.Done → AsksBoth words.now (L.asked loader.old) (L.asked loader.new) }
+
+    // 2: exactly on words of no form, up to faults of the sink and want of memory
+    ensures usage { result ≡ Status.Usage → IsNoForm words.now × (S.taken sink.new ≡ with_text usage_text (S.taken sink.old))
+        × (L.asked loader.new ≡ L.asked loader.old) }
+    ensures usage_completes { IsNoForm words.now → IsUsageOrFault result }
+
+    // 3: only where the loader told a fault
+    ensures load_fault { (name : List ℕ) → result ≡ Status.LoadFault name → Rose (L.faults loader.old) (L.faults loader.new) }
+    ensures load_fault_row { (name : List ℕ) → result ≡ Status.LoadFault name
+        → LoadFaultRow name words.now (L.asked loader.old) (L.asked loader.new) (S.taken sink.old) (S.taken sink.new) }
+    ensures loads { L.faults loader.old ≤ L.faults loader.new }
+
+    // 4: only where the sink told a fault
+    ensures write_fault { result ≡ Status.WriteFault → Rose (S.faults sink.old) (S.faults sink.new) }
+    ensures front { result ≡ Status.WriteFault → WritesFront (record {
+      words = words.now;
+      holds = L.holds loader.old;
+      asked = L.asked loader.old;
+      asked' = L.asked loader.new;
+      faults = L.faults loader.old;
+      faults' = L.faults loader.new;
+    }) (S.taken sink.old) (S.taken sink.new) }
+    ensures writes { S.faults sink.old ≤ S.faults sink.new }
+
+    // 10: nothing is written
+    ensures memory { result ≡ Status.WantOfMemory → S.taken sink.new ≡ S.taken sink.old }
+
+    // 11: exactly on files beyond what is built, up to faults and want of memory
+    ensures not_built { result ≡ Status.NotBuilt
+        → NotBuiltRow words.now (L.holds loader.old) (S.taken sink.old) (S.taken sink.new) }
+    ensures not_built_completes { (file plan source p : List ℕ) → words.now ≡ run_words file plan
+        → L.holds loader.old file ≡ Some source → L.holds loader.old plan ≡ Some p
+        → (IsNotThin source ⊎ (p ≢ plan_text)) → IsNotBuiltOrFault result }
+    ensures asked_not_built { result ≡ Status.NotBuilt → AsksBoth words.now (L.asked loader.old) (L.asked loader.new) }
+{
+    answer(alloc, words, loader, sink)
+}

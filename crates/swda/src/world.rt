@@ -1,0 +1,266 @@
+//! The world of one node and one root task: its job, what it printed, and all that happened.
+
+ghost use Rattle.std.specs.Prelude.{◌≡◌, ◌<◌, ◌≤◌, ◌+◌, ◌^◌, ◌↔◌, [], ◌∷◌, ◌++◌, Some, None, IfOk, OnOk, OnErr, IsErrOf, MatchOption, vec_len, vec_capacity, length};
+ghost use Rattle.sw_job.specs.Machine.{frame};
+ghost use Rattle.sw_job.specs.declared.turn.Given.TheVariants.{Nothing};
+ghost use Rattle.swda.specs.History.{turn_entry};
+ghost use Rattle.swda.specs.declared.history.Event.TheVariants.{Turn};
+
+use crate::history::{Entry, Event, Label, TaskEnd, TaskLine};
+use crate::machine::run_job;
+use std::alloc::{AllocError, Global};
+use std::marker::Model;
+use sw_base::{FuncNo, Items, JobNo, NoMemory, NodeNo, Stack, Text, Texts};
+use sw_job::{Ask, Code, Exit, Frame, Frames, Given, TurnEnd, TurnStart, Value};
+
+/// How many statements a turn begins at most.
+const SLICE: u64 = 1000;
+
+/// Why an event did not come. The world is as before.
+#[derive(Clone, Copy, Debug, PartialEq, Eq)]
+pub enum StepRefusal {
+    /// The event is not enabled.
+    NotEnabled,
+    /// Memory was wanted.
+    NoMemory,
+}
+
+impl From<AllocError> for StepRefusal {
+    ghost use Rattle.swda.specs.declared.world.StepRefusal.TheVariants.{NoMemory};
+
+    ghost from_gives = { λ _ e. e ≡ NoMemory };
+
+    fn from(_: AllocError) -> StepRefusal {
+        StepRefusal::NoMemory
+    }
+}
+
+impl From<NoMemory> for StepRefusal {
+    ghost use Rattle.swda.specs.declared.world.StepRefusal.TheVariants.{NoMemory};
+
+    ghost from_gives = { λ _ e. e ≡ NoMemory };
+
+    fn from(_: NoMemory) -> StepRefusal {
+        StepRefusal::NoMemory
+    }
+}
+
+/// A world whose history is legal for every program that its code carries.
+#[derive(Debug, Drop)]
+pub struct World {
+    alloc: Global,
+    code: Code,
+    main: FuncNo,
+    job: Option<TurnStart>,
+    log: Texts,
+    begun: u64,
+    history: Vec<Entry>,
+}
+
+impl Model for World {
+    ghost use Rattle.swda.specs.World.{Run, IsSound};
+
+    ghost Value = { Run };
+
+    ghost view = { λ w. record { code = w.code; main = w.main.0; job = w.job; log = w.log; begun = w.begun; history = w.history.items } };
+
+    ghost invariant = { λ w. IsSound (record { code = w.code; main = w.main.0; job = w.job; log = w.log; begun = w.begun; history = w.history.items }) };
+}
+
+// Puts an item where there is room for it.
+fn push_reserved<T: Drop>(items: &mut Vec<T>, item: T)
+    requires { vec_len items.old < vec_capacity items.old }
+    ensures { items.new.items ≡ items.old.items ++ item ∷ [] }
+{
+    match items.push(item) {
+        Ok(()) => {}
+        Err(_) => unreachable!(),
+    }
+}
+
+// The frames of a func that begins.
+fn entry_frames(alloc: Global, func: FuncNo) -> Result<Frames, NoMemory>
+    ensures { IfOk result (λ frames. frames ≡ frame func.0 0 [] ∷ []) }
+{
+    let mut frames = Stack::new(alloc);
+    frames.push(Frame {
+        func,
+        place: 0,
+        operands: Stack::new(alloc),
+    })?;
+    Ok(frames)
+}
+
+// The entry of a turn: the job went on until it had begun so many statements.
+fn turn_entry(alloc: Global, job: JobNo, begun: u64) -> Result<Entry, NoMemory>
+    ensures { IfOk result (λ entry. entry ≡ turn_entry job begun) }
+{
+    let mut labels = Items::new(alloc);
+    labels.push(Label::Go(job, u64::max(1, begun)))?;
+    Ok(Entry {
+        event: Event::Turn(job),
+        labels,
+    })
+}
+
+// The line that is asked to be printed.
+fn line_of(ask: Ask) -> Text
+    ensures { ask ≡ Ask.Print result }
+{
+    match ask {
+        Ask::Print(line) => line,
+    }
+}
+
+impl World {
+    ghost use Rattle.swda.specs.World.{Run, IsEnabled, IsLegalForAll, Steps, job_ahead, the_task};
+
+    /// A world in which nothing has happened yet. Its root task is a func of the code.
+    pub fn new(alloc: Global, code: Code, main: FuncNo) -> Result<World, NoMemory>
+        requires { main.0 < length code }
+        ensures { IfOk result (λ w. w ≡ record { code = code; main = main.0; job = Some (record { frames = frame main.0 0 [] ∷ []; given = Nothing }); log = []; begun = 0; history = [] }) }
+    {
+        let frames = entry_frames(alloc, main)?;
+        let Some(func) = code.func(main) else {
+            unreachable!()
+        };
+        // The statements of a run are at most the instructions, and so are within a `usize`.
+        let _ = func.instrs.len();
+        Ok(World {
+            alloc,
+            code,
+            main,
+            job: Some(TurnStart {
+                frames,
+                given: Given::Nothing,
+            }),
+            log: Items::new(alloc),
+            begun: 0,
+            history: Vec::new(alloc),
+        })
+    }
+
+    /// One event. `NotEnabled` comes exactly where the event is not enabled, and an error changes nothing.
+    pub fn step(&mut self, event: Event) -> Result<(), StepRefusal>
+        ensures ok { OnOk result (Steps self.old event self.new) }
+        ensures enabled { OnOk result (IsEnabled self.old event) }
+        ensures refused { IsErrOf result StepRefusal.NotEnabled → ¬ IsEnabled self.old event }
+        ensures err { OnErr result (self.new ≡ self.old) }
+    {
+        match event {
+            Event::Turn(job) => self.turn(job),
+        }
+    }
+
+    fn turn(&mut self, job: JobNo) -> Result<(), StepRefusal>
+        ensures ok { OnOk result (Steps self.old (Turn job) self.new) }
+        ensures enabled { OnOk result (IsEnabled self.old (Turn job)) }
+        ensures refused { IsErrOf result StepRefusal.NotEnabled → ¬ IsEnabled self.old (Turn job) }
+        ensures err { OnErr result (self.new ≡ self.old) }
+    {
+        if job.0 != 0 {
+            return Err(StepRefusal::NotEnabled);
+        }
+        let Some(start) = &self.job else {
+            return Err(StepRefusal::NotEnabled);
+        };
+        let TurnEnd {
+            exit,
+            frames,
+            begun,
+        } = run_job(self.alloc, &self.code, start, SLICE)?;
+        let entry = turn_entry(self.alloc, job, begun)?;
+        self.history.reserve(1)?;
+        match exit {
+            Exit::Ask(ask) => {
+                self.log.push(line_of(ask))?;
+                push_reserved(&mut self.history, entry);
+                self.begun += begun;
+                self.job = Some(TurnStart {
+                    frames,
+                    given: Given::Value(Value::Void),
+                });
+                Ok(())
+            }
+            Exit::Return(_) => {
+                push_reserved(&mut self.history, entry);
+                self.begun += begun;
+                self.job = None;
+                Ok(())
+            }
+            Exit::Slice => {
+                push_reserved(&mut self.history, entry);
+                self.begun += begun;
+                self.job = Some(TurnStart {
+                    frames,
+                    given: Given::Nothing,
+                });
+                Ok(())
+            }
+        }
+    }
+
+    /// The driver's next event: the turn of the one job, while it has not ended.
+    pub fn next_event(&self) -> Option<Event>
+        ensures { MatchOption result (self.now.job ≡ None) (λ event. IsEnabled self.now event) }
+    {
+        match &self.job {
+            Some(_) => Some(Event::Turn(JobNo(0))),
+            None => None,
+        }
+    }
+
+    /// Does the driver's events, one after the other, up to where none is next.
+    pub fn drive(&mut self) -> Result<(), NoMemory>
+        ensures code { OnOk result (self.new.code ≡ self.old.code) }
+        ensures main { OnOk result (self.new.main ≡ self.old.main) }
+        ensures ends { OnOk result (self.new.job ≡ None) }
+    {
+        while let Some(event) = self.next_event() {
+            match self.step(event) {
+                Ok(()) => {}
+                Err(StepRefusal::NoMemory) => return Err(NoMemory),
+                Err(StepRefusal::NotEnabled) => unreachable!(),
+            }
+        }
+        Ok(())
+    }
+
+    /// The statements begun.
+    pub fn begun(&self) -> u64
+        ensures { result ≡ self.now.begun }
+    {
+        self.begun
+    }
+
+    /// The lines printed, the first one first.
+    pub fn log(&self) -> &[Text]
+        ensures { result.now ≡ self.now.log }
+    {
+        self.log.as_slice()
+    }
+
+    /// The root task, as it has ended so far.
+    pub fn task(&self) -> TaskLine
+        ensures { result ≡ the_task self.now.job }
+    {
+        TaskLine {
+            task: 0,
+            node: NodeNo(0),
+            epoch: 0,
+            end: match &self.job {
+                Some(_) => TaskEnd::Unfinished,
+                None => TaskEnd::Returned,
+            },
+        }
+    }
+
+    /// The events with their labels, the first one first. They are a legal history of every program that
+    /// the code carries.
+    pub fn history(&self) -> &[Entry]
+        ensures value { result.now ≡ self.now.history }
+        ensures legal { IsLegalForAll self.now }
+    {
+        self.history.as_slice()
+    }
+}
