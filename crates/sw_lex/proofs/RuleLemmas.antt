@@ -1,0 +1,201 @@
+-- What is found of each rule is where it is broken first.
+use Rattle.std.proofs.Common.{◌≡◌, ◌<◌, ◌≤◌, ◌⊎◌, ℕ, ◌+◌, Bool, true, false, cond, Option, Some, None, List, [], ◌∷◌, length, drop, refl, ap, sym, ◌∙◌, subst, arith, nat_lt}
+use Rattle.std.proofs.lemmas.Grind.{common_steps}
+use mathlib.Core.Logic.{inl, inr}
+use Rattle.std.specs.Prelude.{IfSome}
+use Rattle.std.specs.Str.{IsValidUpTo}
+use Rattle.sw_rules.specs.declared.Rule.{Rule}
+use Rattle.sw_rules.specs.declared.Rule.TheVariants.{L1, L2, L3, L4, L5}
+use Rattle.sw_lex.specs.declared.forms.Begin.{Begin}
+use Rattle.sw_lex.specs.declared.forms.Begin.TheVariants.{End, Gap, Token, Formless, Unclosed}
+use Rattle.sw_lex.specs.Bytes.{Text}
+use Rattle.sw_lex.specs.Forms.{size_of, IsStop}
+use Rattle.sw_lex.specs.Cut.{Cut, CutOf, IsGood}
+use Rattle.sw_lex.specs.Rules.{Breaks, IsBefore, IsFirst, HasTooLarge, StopsAt, is_too_large, stop_at}
+use Rattle.sw_lex.specs.Finding.{Found, bad_found, stop_found, large_at, large_found, long_found}
+use Rattle.sw_lex.proofs.OneCut.{not_short, one_length, one_whole}
+use Rattle.sw_lex.proofs.FirstLemmas.{pair, before_same, first_same, first_union}
+
+-- ---- the kinds of rules, each by itself
+
+abbrev BreaksBytes : Text → Rule → ℕ → Type 0
+BreaksBytes source rule at = (rule ≡ L1) × IsValidUpTo source at
+
+abbrev BreaksForm : Text → Rule → ℕ → Type 0
+BreaksForm source rule at = ((rule ≡ L2) × StopsAt source Formless at) ⊎ ((rule ≡ L3) × StopsAt source Unclosed at)
+
+abbrev BreaksSize : Text → Rule → ℕ → Type 0
+BreaksSize source rule at = (rule ≡ L4) × ((whole : CutOf source) × HasTooLarge 0 source whole.items at)
+
+abbrev BreaksLength : Text → Rule → ℕ → Type 0
+BreaksLength source rule at = (rule ≡ L5) × ((at ≡ 0) × (1048576 < length source))
+
+abbrev BreaksAny : Text → Rule → ℕ → Type 0
+BreaksAny source rule at = ((BreaksBytes source rule at ⊎ BreaksForm source rule at) ⊎ BreaksSize source rule at) ⊎ BreaksLength source rule at
+
+breaks_of : (source : Text) (rule own : Rule) (at : ℕ) → rule ≡ own → Breaks source own at → Breaks source rule at
+breaks_of source rule own at e h = subst (λ (r : Rule). Breaks source r at) (sym e) h
+
+any_breaks : (source : Text) (rule : Rule) (at : ℕ) → BreaksAny source rule at → Breaks source rule at
+any_breaks source rule at (inl (inl (inl h))) = breaks_of source rule L1 at h.0 h.1
+any_breaks source rule at (inl (inl (inr (inl h)))) = breaks_of source rule L2 at h.0 h.1
+any_breaks source rule at (inl (inl (inr (inr h)))) = breaks_of source rule L3 at h.0 h.1
+any_breaks source rule at (inl (inr h)) = breaks_of source rule L4 at h.0 h.1
+any_breaks source rule at (inr h) = breaks_of source rule L5 at h.0 h.1
+
+breaks_any : (source : Text) (rule : Rule) (at : ℕ) → Breaks source rule at → BreaksAny source rule at
+breaks_any source L1 at h = inl (inl (inl (refl, h)))
+breaks_any source L2 at h = inl (inl (inr (inl (refl, h))))
+breaks_any source L3 at h = inl (inl (inr (inr (refl, h))))
+breaks_any source L4 at h = inl (inr (refl, h))
+breaks_any source L5 at h = inr (refl, h)
+breaks_any source rule at h = absurd h
+
+before_of : (own rule : Rule) (at place : ℕ) → rule ≡ own → at ≡ place → IsBefore own at rule place
+before_of own rule at place e f = subst (λ (r : Rule). IsBefore own at r place) (sym e) (before_same own at place f)
+
+-- ---- bytes that are not UTF-8
+
+bad_first : (source : Text) (good : ℕ) → IsGood source good → IsFirst (BreaksBytes source) (bad_found source good)
+bad_first source good (inl g) = let t : nat_lt good (length source) ≡ false = grind (arith, common_steps) in
+    subst (λ (b : Bool). IsFirst (BreaksBytes source) (cond b (Some (pair L1 good)) None)) (sym t) (λ rule at h. not_short source at g.1 h.1)
+bad_first source good (inr v) = let s : good < length source = v.short in let t : nat_lt good (length source) ≡ true = grind (arith, common_steps) in
+    subst (λ (b : Bool). IsFirst (BreaksBytes source) (cond b (Some (pair L1 good)) None)) (sym t) ((refl, v), λ rule at h. before_of L1 rule good at h.0 (one_length source good at v h.1))
+
+-- ---- where the cut stops
+
+formless_end : Formless ≡ End → ⊥
+formless_end e = cc
+
+unclosed_end : Unclosed ≡ End → ⊥
+unclosed_end e = cc
+
+stop_first : (source : Text) (good : ℕ) (items : List Begin) (stop : Begin) → IsGood source good → Cut [] good source items stop → IsStop stop → IsFirst (BreaksForm source) (stop_found stop items)
+stop_first source good items End g c s = λ rule at h. elim h [ inl p ↦ none rule at L2 Formless formless_end p | inr p ↦ none rule at L3 Unclosed unclosed_end p ]
+  where
+    none : (rule : Rule) (at : ℕ) (own : Rule) (stop : Begin) → (stop ≡ End → ⊥) → (rule ≡ own) × StopsAt source stop at → ⊥
+    none rule at own stop other h = other (sym h.1.1 ∙ (one_whole source good items End g c h.1.0).1)
+stop_first source good items Formless g c s = (
+  inl (refl, (whole, refl, refl)),
+  λ rule at h. elim h [ inl p ↦ before_of L2 rule _ at p.0 (place at p.1) | inr p ↦ absurd (other at p.1) ],
+)
+  where
+    whole : CutOf source
+    whole = record { good = good; items = items; stop = Formless; front = g; cut = c }
+
+    place : (at : ℕ) → StopsAt source Formless at → stop_at 0 0 [] items ≡ at
+    place at h = ap (λ xs. stop_at 0 0 [] xs) (sym (one_whole source good items Formless g c h.0).0) ∙ sym h.2
+
+    other : (at : ℕ) → StopsAt source Unclosed at → ⊥
+    other at h = let e : Unclosed ≡ Formless = sym h.1 ∙ (one_whole source good items Formless g c h.0).1 in cc
+stop_first source good items Unclosed g c s = (
+  inr (refl, (whole, refl, refl)),
+  λ rule at h. elim h [ inl p ↦ absurd (other at p.1) | inr p ↦ before_of L3 rule _ at p.0 (place at p.1) ],
+)
+  where
+    whole : CutOf source
+    whole = record { good = good; items = items; stop = Unclosed; front = g; cut = c }
+
+    place : (at : ℕ) → StopsAt source Unclosed at → stop_at 0 0 [] items ≡ at
+    place at h = ap (λ xs. stop_at 0 0 [] xs) (sym (one_whole source good items Unclosed g c h.0).0) ∙ sym h.2
+
+    other : (at : ℕ) → StopsAt source Formless at → ⊥
+    other at h = let e : Formless ≡ Unclosed = sym h.1 ∙ (one_whole source good items Unclosed g c h.0).1 in cc
+stop_first source good items (Gap n) g c s = absurd s
+stop_first source good items (Token kind n) g c s = absurd s
+
+-- ---- integers that are too large
+
+large_behind : (at place : ℕ) (bytes : Text) (items : List Begin) → HasTooLarge at bytes items place → at ≤ place
+large_behind at place bytes [] h = absurd h
+large_behind at place bytes (item ∷ items) (inl h) = omega (arith, h.0)
+large_behind at place bytes (item ∷ items) (inr h) = omega (arith, large_behind (at + size_of item) place (drop (size_of item) bytes) items h)
+
+-- what is found is too large, and what is too large stands no earlier
+abbrev IsFirstLarge : ℕ → Text → List Begin → Option ℕ → Type 0
+IsFirstLarge at bytes items None = (place : ℕ) → HasTooLarge at bytes items place → ⊥
+IsFirstLarge at bytes items (Some found) = HasTooLarge at bytes items found × ((place : ℕ) → HasTooLarge at bytes items place → found ≤ place)
+
+first_large : (at : ℕ) (bytes : Text) (items : List Begin) → IsFirstLarge at bytes items (large_at at bytes items)
+first_large at bytes [] = λ place h. h
+first_large at bytes (item ∷ items) = go (is_too_large bytes item) (large_at (at + size_of item) (drop (size_of item) bytes) items) refl (first_large (at + size_of item) (drop (size_of item) bytes) items)
+  where
+    go : (large : Bool) (later : Option ℕ) → is_too_large bytes item ≡ large → IsFirstLarge (at + size_of item) (drop (size_of item) bytes) items later → IsFirstLarge at bytes (item ∷ items) (cond large (Some at) later)
+    go true later e k = (inl (refl, e), λ place h. large_behind at place bytes (item ∷ items) h)
+    go false None e k = λ place h. elim h [ inl p ↦ absurd (cc) | inr p ↦ k place p ]
+    go false (Some found) e k = (inr k.0, λ place h. elim h [ inl p ↦ absurd (cc) | inr p ↦ k.1 place p ])
+
+large_first : (source : Text) (good : ℕ) (items : List Begin) (stop : Begin) → IsGood source good → Cut [] good source items stop → IsFirst (BreaksSize source) (large_found (large_at 0 source items))
+large_first source good items stop g c = go (large_at 0 source items) (first_large 0 source items)
+  where
+    whole : CutOf source
+    whole = record { good = good; items = items; stop = stop; front = g; cut = c }
+
+    same : (at : ℕ) → ((whole : CutOf source) × HasTooLarge 0 source whole.items at) → HasTooLarge 0 source items at
+    same at h = subst (λ (xs : List Begin). HasTooLarge 0 source xs at) (one_whole source good items stop g c h.0).0 h.1
+
+    before : (rule : Rule) (found at : ℕ) → rule ≡ L4 → found ≤ at → IsBefore L4 found rule at
+    before rule found at e h = subst (λ (r : Rule). IsBefore L4 found r at) (sym e) (step (nat_lt found at) refl)
+      where
+        step : (t : Bool) → nat_lt found at ≡ t → IsBefore L4 found L4 at
+        step true t = let l : found < at = grind (arith, common_steps) in inl l
+        step false t = let l : at ≤ found = grind (arith, common_steps) in let e : found ≡ at = omega arith in before_same L4 found at e
+
+    go : (found : Option ℕ) → IsFirstLarge 0 source items found → IsFirst (BreaksSize source) (large_found found)
+    go None k = λ rule at h. k at (same at h.1)
+    go (Some found) k = ((refl, (whole, k.0)), λ rule at h. before rule found at h.0 (k.1 at (same at h.1)))
+
+-- ---- sources that are too long
+
+long_first : (source : Text) → IsFirst (BreaksLength source) (long_found source)
+long_first source = go (nat_lt 1048576 (length source)) refl
+  where
+    go : (t : Bool) → nat_lt 1048576 (length source) ≡ t → IsFirst (BreaksLength source) (cond t (Some (pair L5 0)) None)
+    go true t = let l : 1048576 < length source = grind (arith, common_steps) in ((refl, (refl, l)), λ rule at h. before_of L5 rule 0 at h.0 (sym h.1.0))
+    go false t = let l : length source ≤ 1048576 = grind (arith, common_steps) in λ rule at h. absurd (omega (arith, l, h.1.1))
+
+-- ---- all of them
+
+pub first_of_all : (source : Text) (good : ℕ) (items : List Begin) (stop : Begin) (c d found : Found) → IsGood source good → Cut [] good source items stop → IsStop stop
+    → IsFirst (λ r o. (bad_found source good ≡ Some (pair r o)) ⊎ (stop_found stop items ≡ Some (pair r o))) c
+    → IsFirst (λ r o. (c ≡ Some (pair r o)) ⊎ (large_found (large_at 0 source items) ≡ Some (pair r o))) d
+    → IsFirst (λ r o. (d ≡ Some (pair r o)) ⊎ (long_found source ≡ Some (pair r o))) found
+    → IsFirst (Breaks source) found
+first_of_all source good items stop c d found g cut s h k l =
+    let two = first_union (BreaksBytes source) (BreaksForm source) _ _ c (bad_first source good g) (stop_first source good items stop g cut s) h in
+    let three = first_union (λ r o. BreaksBytes source r o ⊎ BreaksForm source r o) (BreaksSize source) c _ d two (large_first source good items stop g cut) k in
+    let four = first_union (λ r o. (BreaksBytes source r o ⊎ BreaksForm source r o) ⊎ BreaksSize source r o) (BreaksLength source) d _ found three (long_first source) l in
+    first_same (BreaksAny source) (Breaks source) found (any_breaks source) (breaks_any source) four
+
+-- where a source is too long, what is found stands at its start
+pub first_near : (source : Text) (found : Found) → IsFirst (Breaks source) found → IfSome found (λ x. x.1 ≤ length source) → IfSome found (λ x. x.1 ≤ 1048576)
+first_near source None h k = tt
+first_near source (Some x) h k = go (nat_lt 1048576 (length source)) refl
+  where
+    start : IsBefore x.0 x.1 L5 0 → x.1 ≤ 1048576
+    start (inl p) = omega (arith, p)
+    start (inr p) = omega (arith, p.0)
+
+    go : (t : Bool) → nat_lt 1048576 (length source) ≡ t → x.1 ≤ 1048576
+    go true t = let l : 1048576 < length source = grind (arith, common_steps) in start (h.1 L5 0 (refl, l))
+    go false t = let l : length source ≤ 1048576 = grind (arith, common_steps) in omega (arith, l, k)
+
+-- where nothing is found, the source is not too long
+pub first_short : (source : Text) (found : Found) → IsFirst (Breaks source) found → found ≡ None → length source ≤ 1048576
+first_short source None h f = go (nat_lt 1048576 (length source)) refl
+  where
+    go : (t : Bool) → nat_lt 1048576 (length source) ≡ t → length source ≤ 1048576
+    go true t = let l : 1048576 < length source = grind (arith, common_steps) in absurd (h L5 0 (refl, l))
+    go false t = grind (arith, common_steps)
+first_short source (Some x) h f = absurd (cc)
+
+-- where nothing is broken, the cut stops at the end
+pub stops_at_end : (source : Text) (whole : CutOf source) → IsStop whole.stop → IsFirst (Breaks source) None → whole.stop ≡ End
+stops_at_end source whole s h = go whole.stop refl s
+  where
+    go : (stop : Begin) → whole.stop ≡ stop → IsStop stop → whole.stop ≡ End
+    go End e s = e
+    go Formless e s = absurd (h L2 _ (whole, e, refl))
+    go Unclosed e s = absurd (h L3 _ (whole, e, refl))
+    go (Gap n) e s = absurd s
+    go (Token kind n) e s = absurd s

@@ -1,0 +1,9 @@
+pub mod Bytes
+pub mod Tables
+pub mod Strings
+pub mod Forms
+pub mod Cut
+pub mod Tokens
+pub mod Rules
+pub mod Finding
+pub mod Lexing

@@ -1,0 +1,104 @@
+-- The tokens of a cut: their texts, their places, and what they take from what stands before them.
+use Rattle.std.specs.Prelude.{◌≡◌, ◌≢◌, ℕ, ◌+◌, ◌-◌, true, false, not, if◌then◌else◌, ◌==◌, List, [], ◌∷◌, ◌++◌, take, drop, length, slice_index}
+use Rattle.sw_base.specs.declared.ids.Span.{Span}
+use Rattle.sw_lex.specs.declared.bytes.Class.TheVariants as class
+use Rattle.sw_lex.specs.declared.token.TokenKind.{TokenKind}
+use Rattle.sw_lex.specs.declared.token.TokenKind.TheVariants as k
+use Rattle.sw_lex.specs.declared.token.Token.{Token as SourceToken}
+use Rattle.sw_lex.specs.declared.forms.Begin.{Begin}
+use Rattle.sw_lex.specs.declared.forms.Begin.TheVariants.{End, Gap, Token}
+use Rattle.sw_lex.specs.declared.telling.Here.{Here}
+use Rattle.sw_lex.specs.Bytes.{Text, is_in, line_feed}
+use Rattle.sw_lex.specs.Strings.{decoded}
+use Rattle.sw_lex.specs.Forms.{size_of}
+use Rattle.sw_lex.specs.Cut.{CutOf}
+
+-- ---- places
+
+-- where a source begins
+abbrev pub origin : Span
+origin = record { line = 1; column = 1 }
+
+-- the place behind one byte: behind LF the next line's first column, behind any other the next column
+abbrev pub behind : Span → ℕ → Span
+behind place byte = if byte == line_feed then record { line = place.line + 1; column = 1 } else record { line = place.line; column = place.column + 1 }
+
+-- the place behind these bytes
+abbrev pub moved : Span → Text → Span
+moved place [] = place
+moved place (byte ∷ bytes) = moved (behind place byte) bytes
+
+-- the place of the byte at an offset
+abbrev pub place_at : Text → ℕ → Span
+place_at source at = moved origin (take at source)
+
+-- one column after the last byte, if there is one
+abbrev pub end_place : Text → Span
+end_place source =
+    if length source == 0 then origin
+    else (let last : Span = place_at source (length source - 1) in record { line = last.line; column = last.column + 1 })
+
+-- ---- texts
+
+-- a string's pieces without the first byte and the last so many
+abbrev pub within : ℕ → Text → Text
+within marks bytes = take (length bytes - marks - 1) (drop 1 bytes)
+
+-- what the pieces of a string stand for, without its marks `"`, `\(` and `)`; of another token its bytes
+abbrev pub text_of : TokenKind → Text → Text
+text_of k.StringWhole bytes = decoded 0 (within 1 bytes)
+text_of k.StringStart bytes = decoded 0 (within 2 bytes)
+text_of k.StringMiddle bytes = decoded 0 (within 2 bytes)
+text_of k.StringLast bytes = decoded 0 (within 1 bytes)
+text_of kind bytes = bytes
+
+-- ---- what a token takes from what stands before it
+
+-- no token stands before a source's first byte; lines count from 1
+abbrev pub start : Here
+start = record { place = origin; last_line = 0; touching = false; spaced = false }
+
+-- behind what begins with these bytes
+abbrev pub beyond : Here → Text → Begin → Here
+beyond here bytes (Gap size) = record { place = moved here.place (take size bytes); last_line = here.last_line; touching = false; spaced = is_in class.Space (slice_index bytes 0) }
+beyond here bytes (Token kind size) = record { place = moved here.place (take size bytes); last_line = here.place.line; touching = true; spaced = false }
+beyond here bytes begin = here
+
+-- A token at a place. It is the first on its line where the last token before it stands on another, and it touches
+-- that token where nothing stands between them.
+abbrev pub token_at : Span → Here → TokenKind → Text → SourceToken
+token_at place here kind text = record {
+  kind = kind;
+  text = text;
+  span = place;
+  first_on_line = not (here.last_line == place.line);
+  touches = here.touching;
+  after_space = here.spaced;
+}
+
+-- ---- the tokens
+
+-- the token that begins with these bytes, if one does
+abbrev pub said : Here → Text → Begin → List SourceToken
+said here bytes (Token kind size) = token_at here.place here kind (text_of kind (take size bytes)) ∷ []
+said here bytes begin = []
+
+-- the tokens among these gaps and tokens, and one for the end of the source at its place
+abbrev pub told : Span → Here → Text → List Begin → List SourceToken
+told end here bytes [] = token_at end here k.End [] ∷ []
+told end here bytes (item ∷ items) = said here bytes item ++ told end (beyond here bytes item) (drop (size_of item) bytes) items
+
+abbrev pub tokens_of : Text → List Begin → List SourceToken
+tokens_of source items = told (end_place source) start source items
+
+-- the last token, and no other, stands for the end of the source, and has no text
+abbrev pub EndsOnce : List SourceToken → Type 0
+EndsOnce [] = ⊥
+EndsOnce (token ∷ []) = (token.kind ≡ k.End) × (token.text ≡ [])
+EndsOnce (token ∷ next ∷ tokens) = (token.kind ≢ k.End) × EndsOnce (next ∷ tokens)
+
+-- The source is cut into these tokens up to its end.
+pub record CutsInto (source : Text) (tokens : List SourceToken) : Type 0 where
+  pub whole : CutOf source
+  pub to_end : whole.stop ≡ End
+  pub same : tokens ≡ tokens_of source whole.items

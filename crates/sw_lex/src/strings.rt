@@ -1,0 +1,215 @@
+//! The pieces of strings: where they end, and what they stand for.
+
+ghost use Rattle.std.specs.Prelude.{◌≡◌, ◌≤◌, ◌<◌, ◌+◌, ◌^◌, ◌++◌, IfOk, OnOk, drop, length};
+ghost use Rattle.sw_lex.specs.Strings as spec;
+
+use crate::bytes::{Class, byte_at, run_len};
+use std::alloc::Global;
+use sw_base::{NoMemory, Text};
+
+/// What a string goes on with.
+#[derive(Clone, Copy, Debug, PartialEq, Eq)]
+pub enum Piece {
+    /// A piece of so many bytes that stands for text.
+    Plain(usize),
+    /// The closing quote.
+    Quote,
+    /// `\(`
+    Open,
+    /// Nothing that a string may have.
+    NoForm,
+    /// The end of the line or of the source.
+    LineEnd,
+}
+
+/// The pieces of a string, up to where they end.
+#[derive(Clone, Copy, Debug, PartialEq, Eq)]
+pub enum Strand {
+    /// So many bytes, with the closing quote.
+    Closed(usize),
+    /// So many bytes, with the `\(` behind them.
+    Opened(usize),
+    /// A piece of no form comes next.
+    Formless,
+    /// The line or the source ends before the closing quote.
+    Unclosed,
+}
+
+fn hex_digit(byte: u8) -> u8
+    ensures { result ≡ spec.hex_digit byte }
+{
+    if byte.is_ascii_digit() {
+        byte.saturating_sub(48)
+    } else if byte <= 70 {
+        byte.saturating_sub(55)
+    } else {
+        byte.saturating_sub(87)
+    }
+}
+
+/// The number of hexadecimal digits. Above the scalar values it is only known to be above them.
+fn hex_number(digits: &[u8]) -> u32
+    ensures { result ≡ spec.hex_number 0 digits.now }
+{
+    let mut number: u32 = 0;
+    for digit in digits {
+        number = number.min(1114112) * 16 + hex_digit(*digit) as u32;
+    }
+    number
+}
+
+fn is_scalar(number: u32) -> bool
+    ensures { result ≡ spec.is_scalar number }
+{
+    number < 55296 || (57344 <= number && number < 1114112)
+}
+
+/// The piece whose first three bytes are `\u{`, by the bytes behind them.
+fn unicode(bytes: &[u8]) -> Piece
+    ensures value { result ≡ spec.unicode bytes.now }
+    ensures within { spec.IsPieceWithin result (3 + length bytes.now) }
+{
+    let digits = run_len(Class::Hex, bytes);
+    if digits < 1 {
+        return Piece::NoForm;
+    }
+    if 8 < digits {
+        return Piece::NoForm;
+    }
+    if byte_at(bytes, digits) != b'}' {
+        return Piece::NoForm;
+    }
+    if is_scalar(hex_number(&bytes[..digits])) {
+        Piece::Plain(digits + 4)
+    } else {
+        Piece::NoForm
+    }
+}
+
+/// The piece whose first byte is `\`, by the bytes behind it.
+fn escape(bytes: &[u8]) -> Piece
+    ensures value { result ≡ spec.escape bytes.now }
+    ensures within { spec.IsPieceWithin result (1 + length bytes.now) }
+{
+    match byte_at(bytes, 0) {
+        b'(' => Piece::Open,
+        b'n' | b'r' | b't' | b'0' | b'"' | b'\'' | b'\\' => Piece::Plain(2),
+        b'u' if byte_at(bytes, 1) == b'{' => unicode(&bytes[2..]),
+        _ => Piece::NoForm,
+    }
+}
+
+fn piece_at(bytes: &[u8], good: usize) -> Piece
+    ensures value { result ≡ spec.piece good bytes.now }
+    ensures within { spec.IsPieceWithin result (length bytes.now) }
+{
+    match bytes {
+        [] => Piece::LineEnd,
+        [byte, rest @ ..] => match *byte {
+            b'"' => Piece::Quote,
+            b'\n' => Piece::LineEnd,
+            b'\r' => Piece::NoForm,
+            b'\\' => escape(rest),
+            byte if 128 <= byte && good == 0 => Piece::NoForm,
+            _ => Piece::Plain(1),
+        },
+    }
+}
+
+/// The pieces behind the first byte, where `good` bytes from there on are characters.
+pub fn pieces(bytes: &[u8], good: usize) -> Strand
+    requires { 1 ≤ length bytes.now }
+    ensures value { result ≡ spec.pieces 0 1 good (drop 1 bytes.now) }
+    ensures within { spec.IsStrandWithin result (length bytes.now) }
+{
+    let mut at = 1;
+    'pieces: loop {
+        match piece_at(&bytes[at..], good.saturating_sub(at - 1)) {
+            Piece::Plain(size) => at += size,
+            Piece::Quote => return Strand::Closed(at + 1),
+            Piece::Open => return Strand::Opened(at + 2),
+            Piece::NoForm => return Strand::Formless,
+            Piece::LineEnd => return Strand::Unclosed,
+        }
+    }
+}
+
+fn escaped(letter: u8) -> u8
+    ensures { result ≡ spec.escaped letter }
+{
+    match letter {
+        b'n' => b'\n',
+        b'r' => b'\r',
+        b't' => b'\t',
+        b'0' => 0,
+        _ => letter,
+    }
+}
+
+fn push_scalar(out: &mut Vec<u8>, number: u32) -> Result<(), NoMemory>
+    ensures { OnOk result (out.new.items ≡ out.old.items ++ spec.scalar_text number) }
+{
+    if !is_scalar(number) {
+        return Ok(());
+    }
+    match char::from_u32(number) {
+        None => Ok(()),
+        Some(character) => {
+            let mut buffer = [0u8; 4];
+            let text = character.encode_utf8(&mut buffer);
+            out.extend_from_slice(text.as_bytes())?;
+            Ok(())
+        }
+    }
+}
+
+fn from_third(bytes: &[u8]) -> &[u8]
+    ensures { result.now ≡ drop 3 bytes.now }
+{
+    if bytes.len() < 3 { &[] } else { &bytes[3..] }
+}
+
+/// Adds what the plain piece stands for that begins a text.
+fn push_spoken(out: &mut Vec<u8>, bytes: &[u8]) -> Result<(), NoMemory>
+    ensures { OnOk result (out.new.items ≡ out.old.items ++ spec.spoken bytes.now) }
+{
+    if byte_at(bytes, 0) == b'\\' {
+        if byte_at(bytes, 1) == b'u' {
+            let digits = from_third(bytes);
+            return push_scalar(out, hex_number(&digits[..run_len(Class::Hex, digits)]));
+        }
+        out.push(escaped(byte_at(bytes, 1)))?;
+        return Ok(());
+    }
+    out.push(byte_at(bytes, 0))?;
+    Ok(())
+}
+
+/// How many bytes that piece has.
+fn spoken_len(bytes: &[u8]) -> usize
+    ensures value { result ≡ spec.spoken_len bytes.now }
+    ensures some { 1 ≤ result }
+    ensures near { result ≤ length bytes.now + 4 }
+{
+    if byte_at(bytes, 0) == b'\\' {
+        if byte_at(bytes, 1) == b'u' {
+            return run_len(Class::Hex, from_third(bytes)) + 4;
+        }
+        return 2;
+    }
+    1
+}
+
+/// The text that plain pieces stand for.
+pub fn decoded(alloc: Global, bytes: &[u8]) -> Result<Text, NoMemory>
+    requires { length bytes.now < 2 ^ 62 }
+    ensures { IfOk result (λ text. text ≡ spec.decoded 0 bytes.now) }
+{
+    let mut out = Vec::new(alloc);
+    let mut at = 0;
+    while at < bytes.len() {
+        push_spoken(&mut out, &bytes[at..])?;
+        at += spoken_len(&bytes[at..]);
+    }
+    Ok(Text::from(out))
+}

@@ -1,0 +1,151 @@
+//! The reserved words and the marks.
+
+ghost use Rattle.std.specs.Prelude.{◌≡◌, ◌≤◌, length, map, true};
+ghost use Rattle.sw_lex.specs.Tables.{IsTable, begins_with, first_mark, is_same_text, kind_in, kind_of_word, mark};
+ghost use Rattle.sw_lex.specs.Forms.{IsWithin};
+
+use crate::forms::Begin;
+use crate::token::TokenKind;
+
+const WORDS: [(&[u8], TokenKind); 47] = [
+    (b"_", TokenKind::Underscore),
+    (b"any", TokenKind::Any),
+    (b"as", TokenKind::As),
+    (b"async", TokenKind::Async),
+    (b"await", TokenKind::Await),
+    (b"break", TokenKind::Break),
+    (b"case", TokenKind::Case),
+    (b"catch", TokenKind::Catch),
+    (b"continue", TokenKind::Continue),
+    (b"default", TokenKind::Default),
+    (b"defer", TokenKind::Defer),
+    (b"do", TokenKind::Do),
+    (b"else", TokenKind::Else),
+    (b"enum", TokenKind::Enum),
+    (b"extension", TokenKind::Extension),
+    (b"false", TokenKind::False),
+    (b"fileprivate", TokenKind::Fileprivate),
+    (b"for", TokenKind::For),
+    (b"func", TokenKind::Func),
+    (b"guard", TokenKind::Guard),
+    (b"if", TokenKind::If),
+    (b"import", TokenKind::Import),
+    (b"in", TokenKind::In),
+    (b"init", TokenKind::Init),
+    (b"inout", TokenKind::Inout),
+    (b"internal", TokenKind::Internal),
+    (b"is", TokenKind::Is),
+    (b"let", TokenKind::Let),
+    (b"nil", TokenKind::Nil),
+    (b"private", TokenKind::Private),
+    (b"protocol", TokenKind::Protocol),
+    (b"public", TokenKind::Public),
+    (b"repeat", TokenKind::Repeat),
+    (b"return", TokenKind::Return),
+    (b"self", TokenKind::Self_),
+    (b"static", TokenKind::Static),
+    (b"struct", TokenKind::Struct),
+    (b"super", TokenKind::Super),
+    (b"switch", TokenKind::Switch),
+    (b"throw", TokenKind::Throw),
+    (b"throws", TokenKind::Throws),
+    (b"true", TokenKind::True),
+    (b"try", TokenKind::Try),
+    (b"typealias", TokenKind::Typealias),
+    (b"var", TokenKind::Var),
+    (b"where", TokenKind::Where),
+    (b"while", TokenKind::While),
+];
+
+/// The longest first.
+const MARKS: [(&[u8], TokenKind); 35] = [
+    (b"..<", TokenKind::HalfOpenRange),
+    (b"...", TokenKind::Ellipsis),
+    (b"->", TokenKind::Arrow),
+    (b"==", TokenKind::EqualEqual),
+    (b"!=", TokenKind::NotEqual),
+    (b"<=", TokenKind::LessEqual),
+    (b">=", TokenKind::GreaterEqual),
+    (b"&&", TokenKind::And),
+    (b"||", TokenKind::Or),
+    (b"??", TokenKind::Coalesce),
+    (b"+=", TokenKind::PlusAssign),
+    (b"-=", TokenKind::MinusAssign),
+    (b"*=", TokenKind::StarAssign),
+    (b"/=", TokenKind::SlashAssign),
+    (b"%=", TokenKind::PercentAssign),
+    (b"(", TokenKind::LeftParen),
+    (b")", TokenKind::RightParen),
+    (b"[", TokenKind::LeftBracket),
+    (b"]", TokenKind::RightBracket),
+    (b"{", TokenKind::LeftBrace),
+    (b"}", TokenKind::RightBrace),
+    (b",", TokenKind::Comma),
+    (b":", TokenKind::Colon),
+    (b";", TokenKind::Semicolon),
+    (b".", TokenKind::Dot),
+    (b"=", TokenKind::Assign),
+    (b"+", TokenKind::Plus),
+    (b"-", TokenKind::Minus),
+    (b"*", TokenKind::Star),
+    (b"/", TokenKind::Slash),
+    (b"%", TokenKind::Percent),
+    (b"<", TokenKind::Less),
+    (b">", TokenKind::Greater),
+    (b"!", TokenKind::Bang),
+    (b"?", TokenKind::Question),
+];
+
+fn is_same_text(a: &[u8], b: &[u8]) -> bool
+    ensures { result ≡ is_same_text a.now b.now }
+{
+    a == b
+}
+
+fn kind_in(mut table: &[(&[u8], TokenKind)], text: &[u8]) -> TokenKind
+    ensures { result ≡ kind_in (map (λ x. (x.0.now, x.1)) table.entry.now) text.now }
+{
+    while let [entry, rest @ ..] = table {
+        if is_same_text(text, entry.0) {
+            return entry.1;
+        }
+        table = rest;
+    }
+    TokenKind::Name
+}
+
+/// The kind of a text that is formed as a name.
+pub fn kind_of_word(text: &[u8]) -> TokenKind
+    ensures { result ≡ kind_of_word text.now }
+{
+    kind_in(&WORDS, text)
+}
+
+fn begins_with(mark: &[u8], bytes: &[u8]) -> bool
+    ensures value { result ≡ begins_with mark.now bytes.now }
+    ensures within { result ≡ true → length mark.now ≤ length bytes.now }
+{
+    mark.len() <= bytes.len() && is_same_text(&bytes[..mark.len()], mark)
+}
+
+fn first_mark(mut table: &[(&[u8], TokenKind)], bytes: &[u8]) -> Begin
+    requires { IsTable (map (λ x. (x.0.now, x.1)) table.now) }
+    ensures value { result ≡ first_mark (map (λ x. (x.0.now, x.1)) table.entry.now) bytes.now }
+    ensures within { IsWithin result (length bytes.now) }
+{
+    while let [entry, rest @ ..] = table {
+        if begins_with(entry.0, bytes) {
+            return Begin::Token(entry.1, entry.0.len());
+        }
+        table = rest;
+    }
+    Begin::Formless
+}
+
+/// The longest mark that begins a text, if one does.
+pub fn mark(bytes: &[u8]) -> Begin
+    ensures value { result ≡ mark bytes.now }
+    ensures within { IsWithin result (length bytes.now) }
+{
+    first_mark(&MARKS, bytes)
+}
