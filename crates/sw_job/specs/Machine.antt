@@ -1,15 +1,18 @@
 -- What the job machine does with code: one instruction, a run, and what the start of a turn hands in.
-use Rattle.std.specs.Prelude.{◌≡◌, ℕ, zero, suc, ◌+◌, nat_lt, List, [], ◌∷◌, Option, Some, None, drop, slice_get, Bool, true, false, if◌then◌else◌}
+use Rattle.std.specs.Fmt.{signed_decimal}
+use Rattle.std.specs.Prelude.{◌≡◌, ℕ, ℤ, ◌+ℤ◌, pos, negsuc, int_lt, not, ◌&&◌, zero, suc, ◌+◌, nat_lt, List, [], ◌∷◌, Option, Some, None, drop, slice_get, Bool, true, false, if◌then◌else◌}
 use Rattle.sw_job.specs.declared.value.Value.{Value}
-use Rattle.sw_job.specs.declared.value.Value.TheVariants.{Str, Void}
+use Rattle.sw_job.specs.declared.value.Value.TheVariants.{Int, Str, Void}
+use Rattle.sw_job.specs.declared.value.TrapKind.{TrapKind}
+use Rattle.sw_job.specs.declared.value.TrapKind.TheVariants.{Overflow}
 use Rattle.sw_job.specs.declared.instr.Instr.{Instr}
-use Rattle.sw_job.specs.declared.instr.Instr.TheVariants.{Begin, PushStr, Print, Take, Discard, ReturnVoid}
+use Rattle.sw_job.specs.declared.instr.Instr.TheVariants.{Begin, PushInt, PushStr, Load, Add, Print, Take, Discard, ReturnVoid}
 use Rattle.sw_job.specs.declared.turn.Operand.{Operand}
 use Rattle.sw_job.specs.declared.turn.Operand.TheVariants.{Value as Operation}
 use Rattle.sw_job.specs.declared.turn.Frame.{Frame}
 use Rattle.sw_job.specs.declared.turn.Ask.TheVariants.{Print as AskPrint}
 use Rattle.sw_job.specs.declared.turn.Exit.{Exit}
-use Rattle.sw_job.specs.declared.turn.Exit.TheVariants.{Ask, Return, Slice}
+use Rattle.sw_job.specs.declared.turn.Exit.TheVariants.{Ask, Return, Trap, Slice}
 use Rattle.sw_job.specs.declared.turn.Given.{Given}
 use Rattle.sw_job.specs.declared.turn.Given.TheVariants.{Nothing, Value as GivenValue}
 use Rattle.sw_job.specs.declared.code.FuncCode.{FuncCode}
@@ -27,8 +30,23 @@ fetch code func place = instr_in (slice_get code func) place
 
 -- the text of a value that can be printed
 abbrev pub printed : Value → Option (List ℕ)
+printed (Int n) = Some (signed_decimal n)
 printed (Str text) = Some text
 printed Void = None
+
+-- what an operator gives: a value, or a trap, or nothing where it has no meaning for these values
+pub data Outcome : Type 0 where
+  Gives : Value → Outcome
+  Traps : TrapKind → Outcome
+  Wrong : Outcome
+
+-- whether a number is an `Int` of 64 bits
+abbrev pub is_int : ℤ → Bool
+is_int n = not (int_lt n (negsuc 9223372036854775807)) && int_lt n (pos 9223372036854775808)
+
+abbrev pub sum_of : Value → Value → Outcome
+sum_of (Int a) (Int b) = if is_int (a +ℤ b) then Gives (Int (a +ℤ b)) else Traps Overflow
+sum_of _ _ = Wrong
 
 -- what an instruction leads to: a frame over its callers with the statements begun so far; or an exit, with
 -- the frames that are left; or nothing, where it has no meaning
@@ -44,6 +62,15 @@ on_value (Operation v ∷ operands) go = go v operands
 abbrev pub on_text : Option (List ℕ) → (List ℕ → CodeNext) → CodeNext
 on_text None go = CodeBad
 on_text (Some text) go = go text
+
+abbrev pub on_operand : Option Operand → (Value → CodeNext) → CodeNext
+on_operand None go = CodeBad
+on_operand (Some (Operation v)) go = go v
+
+abbrev pub on_outcome : Outcome → ℕ → (Value → CodeNext) → CodeNext
+on_outcome (Gives v) n go = go v
+on_outcome (Traps kind) n go = CodeStops (Trap kind) [] n
+on_outcome Wrong n go = CodeBad
 
 abbrev pub is_take : Option Instr → Bool
 is_take (Some Take) = true
@@ -68,6 +95,10 @@ abbrev pub code_act : List FuncCode → ℕ → Instr → ℕ → ℕ → List O
 code_act code max Begin f p o ms n =
     if nat_lt n max then CodeGoes (frame f (p + 1) o) ms (n + 1) else CodeStops Slice (frame f p o ∷ ms) n
 code_act code max (PushStr text) f p o ms n = CodeGoes (frame f (p + 1) (Operation (Str text) ∷ o)) ms n
+code_act code max (PushInt m) f p o ms n = CodeGoes (frame f (p + 1) (Operation (Int m) ∷ o)) ms n
+code_act code max (Load depth) f p o ms n = on_operand (slice_get o depth) (λ v. CodeGoes (frame f (p + 1) (Operation v ∷ o)) ms n)
+code_act code max Add f p o ms n =
+    on_value o (λ y o1. on_value o1 (λ x o2. on_outcome (sum_of x y) n (λ v. CodeGoes (frame f (p + 1) (Operation v ∷ o2)) ms n)))
 code_act code max Print f p o ms n =
     on_value o (λ v rest. on_text (printed v) (λ text. CodeStops (Ask (AskPrint text)) (frame f (p + 1) rest ∷ ms) n))
 code_act code max Take f p o ms n = CodeBad

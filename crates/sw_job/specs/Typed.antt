@@ -1,23 +1,26 @@
 -- When the operand types of code agree, and which starts are typed for it.
-use Rattle.std.specs.Prelude.{◌≡◌, ℕ, ◌+◌, ◌-◌, ◌<◌, ◌≤◌, List, [], ◌∷◌, length, Option, Some, None, drop, slice_get, false}
+use Rattle.std.specs.Prelude.{◌≡◌, ℕ, ◌+◌, ◌-◌, ◌<◌, ◌≤◌, List, [], ◌∷◌, length, Option, Some, None, drop, slice_get, false, ◌++◌, reverse, take}
 use Rattle.sw_job.specs.declared.value.Value.{Value}
-use Rattle.sw_job.specs.declared.value.Value.TheVariants.{Str, Void}
+use Rattle.sw_job.specs.declared.value.Value.TheVariants.{Int, Str, Void}
 use Rattle.sw_job.specs.declared.value.Ty.{Ty}
-use Rattle.sw_job.specs.declared.value.Ty.TheVariants.{Str as StrTy, Void as VoidTy}
+use Rattle.sw_job.specs.declared.value.Ty.TheVariants.{Int as IntTy, Str as StrTy, Void as VoidTy}
 use Rattle.sw_job.specs.declared.instr.Instr.{Instr}
-use Rattle.sw_job.specs.declared.instr.Instr.TheVariants.{Begin, PushStr, Print, Take, Discard, ReturnVoid}
+use Rattle.sw_job.specs.declared.instr.Instr.TheVariants.{Begin, PushInt, PushStr, Load, Add, Print, Take, Discard, ReturnVoid}
 use Rattle.sw_job.specs.declared.turn.Operand.{Operand}
 use Rattle.sw_job.specs.declared.turn.Operand.TheVariants.{Value as Operation}
 use Rattle.sw_job.specs.declared.turn.Frame.{Frame}
 use Rattle.sw_job.specs.declared.turn.Ask.TheVariants.{Print as AskPrint}
 use Rattle.sw_job.specs.declared.turn.Exit.{Exit}
-use Rattle.sw_job.specs.declared.turn.Exit.TheVariants.{Ask, Return, Slice}
+use Rattle.sw_job.specs.declared.turn.Exit.TheVariants.{Ask, Return, Trap, Slice}
 use Rattle.sw_job.specs.declared.turn.Given.{Given}
 use Rattle.sw_job.specs.declared.turn.Given.TheVariants.{Nothing, Value as GivenValue}
 use Rattle.sw_job.specs.declared.code.FuncCode.{FuncCode}
+use Rattle.sw_job.specs.declared.code.Shape.{Shape}
+use Rattle.std.specs.Option.{option_map}
 use Rattle.sw_job.specs.Machine.{fetch, is_take, CodeNext, CodeGoes, CodeStops, CodeBad, CodeStuck, CodeReaches, code_begin, code_step}
 
 abbrev pub ty_of : Value → Ty
+ty_of (Int n) = IntTy
 ty_of (Str text) = StrTy
 ty_of Void = VoidTy
 
@@ -25,9 +28,13 @@ abbrev pub types_of : List Operand → List Ty
 types_of [] = []
 types_of (Operation v ∷ operands) = ty_of v ∷ types_of operands
 
+-- the operand types that a shape tells: the parts, and below them the variables, the newest first
+abbrev pub types_in : List Ty → Shape → List Ty
+types_in variables s = s.parts ++ reverse (take s.variables variables)
+
 abbrev pub shape_in : Option FuncCode → ℕ → Option (List Ty)
 shape_in None place = None
-shape_in (Some f) place = slice_get f.shapes place
+shape_in (Some f) place = option_map (types_in f.variables) (slice_get f.shapes place)
 
 -- the operand types before the instruction at a place
 abbrev pub shape_at : List FuncCode → ℕ → ℕ → Option (List Ty)
@@ -48,11 +55,19 @@ Goes code f p types = (shape_at code f p ≡ Some types) × (is_take (fetch code
 abbrev pub Waits : List FuncCode → ℕ → ℕ → Ty → List Ty → Type 0
 Waits code f p t types = (fetch code f p ≡ Some Take) × (shape_at code f p ≡ Some types) × Goes code f (p + 1) (t ∷ types)
 
+abbrev pub IsPrintable : Ty → Type 0
+IsPrintable IntTy = Unit {0}
+IsPrintable StrTy = Unit {0}
+IsPrintable VoidTy = ⊥
+
 -- what an instruction needs of the operand types, and what they are where it leads
 abbrev pub Agrees : List FuncCode → ℕ → ℕ → Instr → List Ty → Type 0
 Agrees code f p Begin types = Goes code f (p + 1) types
+Agrees code f p (PushInt n) types = Goes code f (p + 1) (IntTy ∷ types)
 Agrees code f p (PushStr text) types = Goes code f (p + 1) (StrTy ∷ types)
-Agrees code f p Print types = (rest : List Ty) × (types ≡ StrTy ∷ rest) × Waits code f (p + 1) VoidTy rest
+Agrees code f p (Load depth) types = (t : Ty) × (slice_get types depth ≡ Some t) × Goes code f (p + 1) (t ∷ types)
+Agrees code f p Add types = (rest : List Ty) × (types ≡ IntTy ∷ IntTy ∷ rest) × Goes code f (p + 1) (IntTy ∷ rest)
+Agrees code f p Print types = (t : Ty) × (rest : List Ty) × (types ≡ t ∷ rest) × IsPrintable t × Waits code f (p + 1) VoidTy rest
 Agrees code f p Take types = Unit {0}
 Agrees code f p (Discard count) types = (count ≤ length types) × Goes code f (p + 1) (drop count types)
 Agrees code f p ReturnVoid types = result_of code f ≡ VoidTy
@@ -82,6 +97,7 @@ TypedStart code (GivenValue v) (m ∷ ms) = TypedCallers code (ty_of v) (m ∷ m
 abbrev pub TypedLeft : List FuncCode → Exit → List Frame → Type 0
 TypedLeft code (Ask (AskPrint text)) frames = TypedStart code (GivenValue Void) frames
 TypedLeft code (Return v) frames = frames ≡ []
+TypedLeft code (Trap kind) frames = frames ≡ []
 TypedLeft code Slice frames = TypedStart code Nothing frames
 
 -- code is never stuck from a start that is typed for it
@@ -105,6 +121,7 @@ all_ahead code (m ∷ ms) = ahead code m.func.0 m.place + all_ahead code ms
 abbrev pub LeavesFewer : ℕ → ℕ → Exit → ℕ → ℕ → Type 0
 LeavesFewer max begun (Ask ask) before after = after < before
 LeavesFewer max begun (Return v) before after = after < before
+LeavesFewer max begun (Trap kind) before after = after < before
 LeavesFewer max begun Slice before after = (after ≡ before) × (max ≤ begun)
 
 -- a step that goes on: the instructions that were and are ahead, and the statements that were and are begun

@@ -6,17 +6,28 @@ ghost use Rattle.std.specs.Option.{option_copied};
 use crate::instr::Instr;
 use crate::value::Ty;
 use std::marker::Model;
-use sw_base::{FuncNo, Items};
+use sw_base::{FuncNo, Items, Stack};
+
+/// What the operands before an instruction are: the first so many variables of the func, and above them
+/// parts of these types.
+#[derive(Debug, PartialEq, Drop)]
+pub struct Shape {
+    pub variables: usize,
+    /// The types of the parts, the newest first.
+    pub parts: Stack<Ty>,
+}
 
 /// The code of one func.
 #[derive(Debug, PartialEq, Drop)]
 pub struct FuncCode {
     /// The type of what the func gives.
     pub result: Ty,
+    /// The types of the func's variables, in the order in which they are declared.
+    pub variables: Items<Ty>,
     /// What the func does, from its first place on.
     pub instrs: Items<Instr>,
-    /// Before each instruction, the types of the operands, the newest first.
-    pub shapes: Items<Items<Ty>>,
+    /// Before each instruction, what the operands are.
+    pub shapes: Items<Shape>,
 }
 
 /// The code of a program's funcs, by their numbers. Its operand types agree at each instruction.

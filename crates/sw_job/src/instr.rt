@@ -7,8 +7,14 @@ use sw_base::Text;
 pub enum Instr {
     /// A statement begins here. Where no more may begin in this turn, the turn ends just before it.
     Begin,
+    /// Gives an integer.
+    PushInt(i64),
     /// Gives a string.
     PushStr(Text),
+    /// Gives a copy of the operand at this depth, where 0 is the newest.
+    Load(usize),
+    /// Takes two integers and gives their sum, or traps where it overflows.
+    Add,
     /// Takes a value and asks to print it. What the ask gives is awaited at the next instruction.
     Print,
     /// Stands where a value is awaited, and is passed as the value is given.

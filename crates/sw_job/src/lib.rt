@@ -7,10 +7,10 @@ mod instr;
 mod turn;
 mod value;
 
-pub use code::{Code, FuncCode};
+pub use code::{Code, FuncCode, Shape};
 pub use instr::Instr;
 pub use turn::{Ask, Exit, Frame, Frames, Given, Operand, TurnEnd, TurnStart};
-pub use value::{Ty, Value};
+pub use value::{TrapKind, Ty, Value};
 
 #[cfg(test)]
 mod tests;

@@ -1,6 +1,6 @@
 //! Each public call once where memory is ample: no contract says that memory is there.
 
-use crate::{Code, Frame, FuncCode, Given, Instr, Operand, TurnStart, Ty, Value};
+use crate::{Code, Frame, FuncCode, Given, Instr, Operand, Shape, TurnStart, Ty, Value};
 use std::alloc::Global;
 use std::test::Fail;
 use sw_base::{Duplicate, FuncNo, Items, NoMemory, Stack, Text};
@@ -10,20 +10,25 @@ fn returning(alloc: Global) -> Result<Code, NoMemory> {
     let mut instrs = Items::new(alloc);
     instrs.push(Instr::ReturnVoid)?;
     let mut shapes = Items::new(alloc);
-    shapes.push(Items::new(alloc))?;
+    shapes.push(Shape {
+        variables: 0,
+        parts: Stack::new(alloc),
+    })?;
     let mut funcs = Items::new(alloc);
     funcs.push(FuncCode {
         result: Ty::Void,
+        variables: Items::new(alloc),
         instrs,
         shapes,
     })?;
     Ok(Code::new(funcs))
 }
 
-// A start that gives nothing to one frame, which holds a string.
+// A start that gives `Void` to one frame, which holds a string and an integer.
 fn holding(alloc: Global) -> Result<TurnStart, NoMemory> {
     let mut operands = Stack::new(alloc);
     operands.push(Operand::Value(Value::Str(Text::from_bytes(alloc, b"hi")?)))?;
+    operands.push(Operand::Value(Value::Int(-1)))?;
     let mut frames = Stack::new(alloc);
     frames.push(Frame {
         func: FuncNo(0),
@@ -53,7 +58,7 @@ fn code_and_starts_are_made_where_memory_is_there(rt: HostRuntime) -> Result<(),
         start
             .frames
             .get(0)
-            .is_some_and(|frame| frame.operands.len() == 1)
+            .is_some_and(|frame| frame.operands.len() == 2)
     );
     Ok(())
 }

@@ -1,6 +1,6 @@
 //! A turn of a job: what it starts from, and how it ends.
 
-use crate::value::Value;
+use crate::value::{TrapKind, Value};
 use sw_base::{Duplicate, FuncNo, NoMemory, Stack, Text};
 
 /// What a frame holds.
@@ -92,6 +92,8 @@ pub enum Exit {
     Ask(Ask),
     /// The job's func has returned this value.
     Return(Value),
+    /// The run of all nodes ends.
+    Trap(TrapKind),
     /// As many statements were begun as may be, and another one is next.
     Slice,
 }

@@ -1,33 +1,31 @@
 -- The code follows the tree: a case for each thing to do, and the whole step.
-use Rattle.std.proofs.Common.{◌≡◌, ℕ, ◌+◌, List, [], ◌∷◌, ◌++◌, length, Some, None, refl, sym, ap, ◌∙◌, subst, arith, append_assoc, length-append, drop, Bool, true, false}
+use Rattle.std.proofs.Common.{◌≡◌, ℕ, ℤ, ◌+◌, List, [], ◌∷◌, ◌++◌, length, Some, None, refl, sym, ap, ◌∙◌, subst, arith, append_assoc, length-append, drop, Bool, true, false}
 use Rattle.std.specs.Prelude.{slice_get, nat_lt, if◌then◌else◌}
-use Rattle.sw_tree.specs.declared.Expr.{Expr}
-use Rattle.sw_tree.specs.declared.Expr.TheVariants.{Str as StrExpr}
-use Rattle.sw_tree.specs.declared.Stmt.{Stmt}
-use Rattle.sw_tree.specs.declared.Stmt.TheVariants.{Print as PrintStmt}
-use Rattle.sw_tree.specs.declared.Func.{Func}
+use Rattle.sw_tree.specs.Tree.{Expr, Stmt, Func, Let as LetStmt, Print as PrintStmt, Int as IntExpr, Str as StrExpr, Var as VarExpr, Add as AddExpr}
 use Rattle.sw_job.specs.declared.value.Value.{Value}
-use Rattle.sw_job.specs.declared.value.Value.TheVariants.{Str, Void}
+use Rattle.sw_job.specs.declared.value.Value.TheVariants.{Int, Str, Void}
 use Rattle.sw_job.specs.declared.instr.Instr.{Instr}
-use Rattle.sw_job.specs.declared.instr.Instr.TheVariants.{Begin, PushStr, Print, Take, Discard, ReturnVoid}
+use Rattle.sw_job.specs.declared.instr.Instr.TheVariants.{Begin, PushInt, PushStr, Load, Add, Print, Take, Discard, ReturnVoid}
 use Rattle.sw_job.specs.declared.turn.Operand.{Operand}
 use Rattle.sw_job.specs.declared.turn.Operand.TheVariants.{Value as Operation}
 use Rattle.sw_job.specs.declared.turn.Frame.{Frame}
 use Rattle.sw_job.specs.declared.turn.Ask.TheVariants.{Print as AskPrint}
 use Rattle.sw_job.specs.declared.turn.Exit.TheVariants.{Ask, Slice}
 use Rattle.sw_job.specs.declared.code.FuncCode.{FuncCode}
-use Rattle.sw_job.specs.Machine.{frame, printed, CodeGoes, CodeStops, on_text, is_take, code_act}
-use Rattle.swda.specs.Meaning.{Todo, Eval, Exec, DoPrint, Await, Forget, Held, Part, Kind, Body, TreeFrame, Fr, TreeGoes, TreeStops, TreeBad, execs, entry, give, with_text, expand, tree_act, finish, tree_step}
-use Rattle.swda.specs.Codes.{expr_code, stmt_code, body_code, func_code}
-use Rattle.swda.proofs.Track.{Scope, HasAt, todo_code, after, Track, ends, item, scope, vals, outer, full, below, AtBody, Good}
-use Rattle.swda.proofs.Follow.{has_front, has_back, Follows, fetched, Makes, makes, stays, Base, base_of, TrackOf, stands_at, track_as, on_part_makes, on_part_follows, text_makes, give_makes}
+use Rattle.sw_job.specs.Machine.{sum_of, frame, printed, CodeGoes, CodeStops, on_value, on_text, on_outcome, is_take, code_act}
+use Rattle.swda.specs.Meaning.{Todo, Eval, Exec, DoAdd, DoLet, DoPrint, Await, Forget, Held, Var, Part, Kind, Body, TreeFrame, Fr, TreeGoes, TreeStops, TreeBad, execs, entry, give, look, on_part, with_value, with_outcome, with_text, expand, tree_act, finish, tree_step}
+use Rattle.swda.specs.Codes.{Scope, depth_of, scope_after, expr_code, stmt_code, body_code, func_code}
+use Rattle.swda.proofs.Track.{HasAt, todo_code, on_none, after, Track, ends, item, scope, vals, outer, full, below, AtBody, Good}
+use Rattle.swda.proofs.Follow.{has_front, has_back, Follows, fetched, Makes, makes, stays, Base, base_of, TrackOf, stands_at, track_as, on_part_makes, on_part_follows, text_makes, outcome_makes, give_makes}
+use Rattle.swda.proofs.Vars.{Found, look_found, value_makes}
 
 -- the code does what is first
 abbrev pub Case : List FuncCode → ℕ → Todo → Type 0
 Case code max i = (k : Kind) (h : List Held) (t : List Todo) (fs : List TreeFrame) (f q : ℕ) (ops : List Operand) (ms : List Frame) (n : ℕ) (sc1 : Scope) (b : Base code k fs (Good code fs) f ms) → ops ≡ vals h ++ b.tail → HasAt b.func.instrs q (todo_code (scope h ++ outer k (full fs)) i) → after i (scope h) ≡ Some sc1 → TrackOf b (q + length (todo_code (scope h ++ outer k (full fs)) i)) sc1 t → Follows code max (tree_act max i k h t fs n) (frame f q ops) ms n
 
-begins : (instrs : List Instr) (q : ℕ) (s : Stmt) → HasAt instrs q (stmt_code s) → slice_get instrs q ≡ Some Begin
-begins instrs q (PrintStmt e) has = has.0
+begins : (instrs : List Instr) (q : ℕ) (sc : Scope) (s : Stmt) → HasAt instrs q (stmt_code sc s) → slice_get instrs q ≡ Some Begin
+begins instrs q sc (LetStmt x e) has = has.0
+begins instrs q sc (PrintStmt e) has = has.0
 
 module _ (code : List FuncCode) (max : ℕ) where
   -- the code is at the place of these frames
@@ -48,6 +46,40 @@ module _ (code : List FuncCode) (max : ℕ) where
   case_str text k h t fs f q ops ms n sc1 b e has a tr =
       makes code max f q b.func (PushStr text) ops ms n (TreeGoes (Fr k (Part (Str text) ∷ h) t ∷ fs) n) b.in_code has.0 (push (Str text) k h t fs f q ops ms n sc1 b e a tr)
 
+  case_int : (m : ℤ) → Case code max (Eval (IntExpr m))
+  case_int m k h t fs f q ops ms n sc1 b e has a tr =
+      makes code max f q b.func (PushInt m) ops ms n (TreeGoes (Fr k (Part (Int m) ∷ h) t ∷ fs) n) b.in_code has.0 (push (Int m) k h t fs f q ops ms n sc1 b e a tr)
+
+  case_var : (x : List ℕ) → Case code max (Eval (VarExpr x))
+  case_var x Body h t fs f q ops ms n sc1 b e has a tr =
+      let depth = depth_of x (scope h ++ []) in
+      let e1 : ops ≡ vals h ++ [] = e ∙ ap (λ z. vals h ++ z) b.at_end.none in
+      let found : Found (look x h) (slice_get ops depth) = subst (λ o. Found (look x h) (slice_get o depth)) (sym e1) (look_found x h) in
+      makes code max f q b.func (Load depth) ops ms n (with_value (look x h) (λ v. TreeGoes (Fr Body (Part v ∷ h) t ∷ fs) n)) b.in_code has.0 (value_makes code max (look x h) (slice_get ops depth) (λ v. TreeGoes (Fr Body (Part v ∷ h) t ∷ fs) n) (λ v. CodeGoes (frame f (q + 1) (Operation v ∷ ops)) ms n) found (λ v. push v Body h t fs f q ops ms n sc1 b e a tr))
+
+  -- two parts and their sum stand here
+  case_add : (ea eb : Expr) → Case code max (Eval (AddExpr ea eb))
+  case_add ea eb k h t fs f q ops ms n sc1 b e has a tr =
+      let instrs = b.func.instrs in
+      let sc = scope h ++ outer k (full fs) in
+      let ca = expr_code sc ea in
+      let cb = expr_code (None ∷ sc) eb in
+      let hb = has_back instrs q ca (cb ++ Add ∷ []) has in
+      let hx = has_back instrs (q + length ca) cb (Add ∷ []) hb in
+      let len : q + length (ca ++ (cb ++ Add ∷ [])) ≡ q + length ca + length cb + 1 = omega (arith, length-append ca (cb ++ Add ∷ []), length-append cb (Add ∷ [])) in
+      let t3 : TrackOf b (q + length ca + length cb) (None ∷ None ∷ scope h) (DoAdd ∷ t) = item hx refl (track_as instrs (outer k (full fs)) b.r b.last t a len tr) in
+      let t2 : TrackOf b (q + length ca) (None ∷ scope h) (Eval eb ∷ DoAdd ∷ t) = item (has_front instrs (q + length ca) cb (Add ∷ []) hb) refl t3 in
+      at_frame k h (Eval ea ∷ Eval eb ∷ DoAdd ∷ t) fs f q ops ms n b e (item (has_front instrs q ca (cb ++ Add ∷ []) has) refl t2)
+
+  case_do_add : Case code max DoAdd
+  case_do_add k h t fs f q ops ms n sc1 b e has a tr =
+      makes code max f q b.func Add ops ms n (tree_act max DoAdd k h t fs n) b.in_code has.0 (on_part_makes code max h b.tail ops (λ y h1. on_part h1 (λ x h2. with_outcome (sum_of x y) n (λ v. TreeGoes (Fr k (Part v ∷ h2) t ∷ fs) n))) (λ y o1. on_value o1 (λ x o2. on_outcome (sum_of x y) n (λ v. CodeGoes (frame f (q + 1) (Operation v ∷ o2)) ms n))) (λ s1. on_none s1 (λ s2. Some (None ∷ s2))) sc1 e a (λ y h1 a1. on_part_makes code max h1 b.tail (vals h1 ++ b.tail) (λ x h2. with_outcome (sum_of x y) n (λ v. TreeGoes (Fr k (Part v ∷ h2) t ∷ fs) n)) (λ x o2. on_outcome (sum_of x y) n (λ v. CodeGoes (frame f (q + 1) (Operation v ∷ o2)) ms n)) (λ s2. Some (None ∷ s2)) sc1 refl a1 (λ x h2 a2. outcome_makes code max (sum_of x y) n (λ v. TreeGoes (Fr k (Part v ∷ h2) t ∷ fs) n) (λ v. CodeGoes (frame f (q + 1) (Operation v ∷ (vals h2 ++ b.tail))) ms n) (λ v. push v k h2 t fs f q (vals h2 ++ b.tail) ms n sc1 b refl a2 tr))))
+
+  -- a part becomes a variable, and the code does nothing
+  case_let : (x : List ℕ) → Case code max (DoLet x)
+  case_let x k h t fs f q ops ms n sc1 b e has a tr =
+      on_part_follows code max h (λ v h1. TreeGoes (Fr k (Var x v ∷ h1) t ∷ fs) n) (λ s1. Some (Some x ∷ s1)) sc1 (frame f q ops) ms n a (λ v h1 eh a1. at_frame k (Var x v ∷ h1) t fs f q ops ms n b (e ∙ ap (λ z. vals z ++ b.tail) eh) (track_as b.func.instrs (outer k (full fs)) b.r b.last t a1 (omega arith) tr))
+
   case_forget : Case code max Forget
   case_forget k h t fs f q ops ms n sc1 b e has a tr =
       on_part_follows code max h (λ v h1. TreeGoes (Fr k h1 t ∷ fs) n) (λ s1. Some s1) sc1 (frame f q ops) ms n a (λ v h1 eh a1. one_go (Discard 1) k h1 t fs f q ops ms n b (q + 1) (drop 1 ops) has.0 refl (ap (λ o. drop 1 o) (e ∙ ap (λ z. vals z ++ b.tail) eh)) (track_as b.func.instrs (outer k (full fs)) b.r b.last t a1 refl tr))
@@ -61,29 +93,31 @@ module _ (code : List FuncCode) (max : ℕ) where
       makes code max f q b.func Print ops ms n (tree_act max DoPrint k h t fs n) b.in_code has.0 (on_part_makes code max h b.tail ops (λ v h1. with_text (printed v) (λ text. TreeStops (Ask (AskPrint text)) (Fr k h1 (Await ∷ t) ∷ fs) n)) (λ v o1. on_text (printed v) (λ text. CodeStops (Ask (AskPrint text)) (frame f (q + 1) o1 ∷ ms) n)) (λ s1. Some (None ∷ s1)) sc1 e a (λ v h1 a1. text_makes code max (printed v) (λ text. TreeStops (Ask (AskPrint text)) (Fr k h1 (Await ∷ t) ∷ fs) n) (λ text. CodeStops (Ask (AskPrint text)) (frame f (q + 1) (vals h1 ++ b.tail) ∷ ms) n) (λ text. (refl, refl, awaiting k h1 t fs f (q + 1) (vals h1 ++ b.tail) ms sc1 b refl has.1.0 a1 (track_as b.func.instrs (outer k (full fs)) b.r b.last t refl (omega arith) tr)))))
 
   -- a part and what takes it stand here
-  one_part : (i : Todo) (xs : List Instr) (ea : Expr) (k : Kind) (h : List Held) (t : List Todo) (fs : List TreeFrame) (f q : ℕ) (ms : List Frame) (sc1 : Scope) (b : Base code k fs (Good code fs) f ms) → todo_code (None ∷ (scope h ++ outer k (full fs))) i ≡ xs → after i (None ∷ scope h) ≡ Some sc1 → HasAt b.func.instrs q (expr_code ea ++ xs) → TrackOf b (q + length (expr_code ea ++ xs)) sc1 t → TrackOf b q (scope h) (Eval ea ∷ i ∷ t)
+  one_part : (i : Todo) (xs : List Instr) (ea : Expr) (k : Kind) (h : List Held) (t : List Todo) (fs : List TreeFrame) (f q : ℕ) (ms : List Frame) (sc1 : Scope) (b : Base code k fs (Good code fs) f ms) → todo_code (None ∷ (scope h ++ outer k (full fs))) i ≡ xs → after i (None ∷ scope h) ≡ Some sc1 → HasAt b.func.instrs q (expr_code (scope h ++ outer k (full fs)) ea ++ xs) → TrackOf b (q + length (expr_code (scope h ++ outer k (full fs)) ea ++ xs)) sc1 t → TrackOf b q (scope h) (Eval ea ∷ i ∷ t)
   one_part i xs ea k h t fs f q ms sc1 b code_i a has tr =
-      let ca = expr_code ea in
+      let ca = expr_code (scope h ++ outer k (full fs)) ea in
       let hx = subst (λ l. HasAt b.func.instrs (q + length ca) l) (sym code_i) (has_back b.func.instrs q ca xs has) in
       let len : q + length (ca ++ xs) ≡ q + length ca + length xs = omega (arith, length-append ca xs) in
       let lx = len ∙ ap (λ l. q + length ca + length l) (sym code_i) in
       item (has_front b.func.instrs q ca xs has) refl (item hx a (track_as b.func.instrs (outer k (full fs)) b.r b.last t refl lx tr))
 
   -- what a statement comes to do stands behind its Begin
-  expand_track : (s : Stmt) (k : Kind) (h : List Held) (t : List Todo) (fs : List TreeFrame) (f q : ℕ) (ms : List Frame) (sc1 : Scope) (b : Base code k fs (Good code fs) f ms) → HasAt b.func.instrs q (stmt_code s) → Some (scope h) ≡ Some sc1 → TrackOf b (q + length (stmt_code s)) sc1 t → TrackOf b (q + 1) (scope h) (expand s t)
+  expand_track : (s : Stmt) (k : Kind) (h : List Held) (t : List Todo) (fs : List TreeFrame) (f q : ℕ) (ms : List Frame) (sc1 : Scope) (b : Base code k fs (Good code fs) f ms) → HasAt b.func.instrs q (stmt_code (scope h ++ outer k (full fs)) s) → Some (scope_after (scope h) s) ≡ Some sc1 → TrackOf b (q + length (stmt_code (scope h ++ outer k (full fs)) s)) sc1 t → TrackOf b (q + 1) (scope h) (expand s t)
+  expand_track (LetStmt x y) k h t fs f q ms sc1 b has a tr =
+      item has.1 refl (item tt refl (track_as b.func.instrs (outer k (full fs)) b.r b.last t a (omega arith) tr))
   expand_track (PrintStmt x) k h t fs f q ms sc1 b has a tr =
       let instrs = b.func.instrs in
-      let ce = expr_code x in
+      let ce = expr_code (scope h ++ outer k (full fs)) x in
       let taken = Print ∷ Take ∷ [] in
       let has1 = subst (λ l. HasAt instrs (q + 1) l) (sym (append_assoc ce taken (Discard 1 ∷ []))) has.1 in
-      let len : q + length (stmt_code (PrintStmt x)) ≡ q + 1 + length (ce ++ taken) + 1 = omega (arith, length-append ce (Print ∷ Take ∷ Discard 1 ∷ []), length-append ce taken) in
+      let len : q + length (stmt_code (scope h ++ outer k (full fs)) (PrintStmt x)) ≡ q + 1 + length (ce ++ taken) + 1 = omega (arith, length-append ce (Print ∷ Take ∷ Discard 1 ∷ []), length-append ce taken) in
       let forget : TrackOf b (q + 1 + length (ce ++ taken)) (None ∷ scope h) (Forget ∷ t) = item (has_back instrs (q + 1) (ce ++ taken) (Discard 1 ∷ []) has1) refl (track_as instrs (outer k (full fs)) b.r b.last t a len tr) in
       one_part DoPrint taken x k h (Forget ∷ t) fs f (q + 1) ms (None ∷ scope h) b refl refl (has_front instrs (q + 1) (ce ++ taken) (Discard 1 ∷ []) has1) forget
 
   -- a statement begins, or the turn ends before it
   case_exec : (s : Stmt) → Case code max (Exec s)
   case_exec s k h t fs f q ops ms n sc1 b e has a tr =
-      let at = begins b.func.instrs q s has in
+      let at = begins b.func.instrs q (scope h ++ outer k (full fs)) s has in
       makes code max f q b.func Begin ops ms n (tree_act max (Exec s) k h t fs n) b.in_code at (go (nat_lt n max) (at_frame k h (expand s t) fs f (q + 1) ops ms (n + 1) b e (expand_track s k h t fs f q ms sc1 b has a tr)) (stands_at b h (Exec s ∷ t) q ops e (item has a tr), ap is_take (fetched code f q b.func Begin b.in_code at)))
     where
       go : (z : Bool) → Follows code max (TreeGoes (Fr k h (expand s t) ∷ fs) (n + 1)) (frame f (q + 1) ops) ms (n + 1) → below code (Good code (Fr k h (Exec s ∷ t) ∷ fs)) (Fr k h (Exec s ∷ t) ∷ fs) (frame f q ops ∷ ms) → Makes code max (if z then TreeGoes (Fr k h (expand s t) ∷ fs) (n + 1) else TreeStops Slice (Fr k h (Exec s ∷ t) ∷ fs) n) (if z then CodeGoes (frame f (q + 1) ops) ms (n + 1) else CodeStops Slice (frame f q ops ∷ ms) n)
@@ -94,7 +128,12 @@ module _ (code : List FuncCode) (max : ℕ) where
   case_await k h t fs f q ops ms n sc1 b e has a tr = makes code max f q b.func Take ops ms n TreeBad b.in_code has.0 tt
 
   any_case : (i : Todo) → Case code max i
+  any_case (Eval (IntExpr m)) = case_int m
   any_case (Eval (StrExpr text)) = case_str text
+  any_case (Eval (VarExpr x)) = case_var x
+  any_case (Eval (AddExpr a b)) = case_add a b
+  any_case DoAdd = case_do_add
+  any_case (DoLet x) = case_let x
   any_case (Exec s) = case_exec s
   any_case DoPrint = case_do_print
   any_case Await = case_await
@@ -134,21 +173,28 @@ has_all (i ∷ xs) pre =
     seam (x ∷ pre) = seam pre
 
 -- statements stand here, and behind them the end of a func
-record BodyTrack (instrs : List Instr) (out sc : Scope) (q : ℕ) (body : List Stmt) : Type 0 where
+record BodyTrack (instrs : List Instr) (sc : Scope) (q : ℕ) (body : List Stmt) : Type 0 where
   pub r : ℕ
+  pub last : Scope
   pub returns : slice_get instrs r ≡ Some ReturnVoid
-  pub track : Track instrs out r sc q sc (execs body [])
+  pub track : Track instrs [] r last q sc (execs body [])
 
-body_track : (instrs : List Instr) (out sc : Scope) (q : ℕ) (body : List Stmt) → HasAt instrs q (body_code body) → BodyTrack instrs out sc q body
-body_track instrs out sc q [] has = record { r = q; returns = has.0; track = ends refl refl }
-body_track instrs out sc q (s ∷ body) has =
-    let rest = body_track instrs out sc (q + length (stmt_code s)) body (has_back instrs q (stmt_code s) (body_code body) has) in
-    record { r = rest.r; returns = rest.returns; track = item (has_front instrs q (stmt_code s) (body_code body) has) refl rest.track }
+body_track : (instrs : List Instr) (sc : Scope) (q : ℕ) (body : List Stmt) → HasAt instrs q (body_code sc body) → BodyTrack instrs sc q body
+body_track instrs sc q [] has = record { r = q; last = sc; returns = has.0; track = ends refl refl }
+body_track instrs sc q (s ∷ body) has =
+    let e : stmt_code sc s ≡ stmt_code (sc ++ []) s = ap (λ z. stmt_code z s) (sym (append_empty sc)) in
+    let rest = body_track instrs (scope_after sc s) (q + length (stmt_code sc s)) body (has_back instrs q (stmt_code sc s) (body_code (scope_after sc s) body) has) in
+    let front = subst (λ l. HasAt instrs q l) e (has_front instrs q (stmt_code sc s) (body_code (scope_after sc s) body) has) in
+    record { r = rest.r; last = rest.last; returns = rest.returns; track = item front refl (subst (λ l. Track instrs [] rest.r rest.last (q + length l) (scope_after sc s) (execs body [])) e rest.track) }
+  where
+    append_empty : (sc : Scope) → sc ++ [] ≡ sc
+    append_empty [] = refl
+    append_empty (x ∷ sc) = ap (λ z. x ∷ z) (append_empty sc)
 
 -- a func at its beginning stands at the beginning of its code
 pub entry_good : (code : List FuncCode) (f : ℕ) (func : Func) (fs : List TreeFrame) (ms : List Frame) → slice_get code f ≡ Some (func_code func) → below code (Good code fs) fs ms → Good code (entry func ∷ fs) (frame f 0 []) ms
 entry_good code f func fs ms e w =
-    let instrs = body_code func.body in
-    let body = body_track instrs [] [] 0 func.body (has_all instrs []) in
+    let instrs = body_code [] func.body in
+    let body = body_track instrs [] 0 func.body (has_all instrs []) in
     let end : AtBody code instrs fs (Good code fs) body.r [] ms = record { returns = body.returns; none = refl; callers = w } in
-    record { func = func_code func; in_code = e; r = body.r; last = []; tail = []; operands = refl; track = body.track; at_end = end }
+    record { func = func_code func; in_code = e; r = body.r; last = body.last; tail = []; operands = refl; track = body.track; at_end = end }

@@ -8,9 +8,10 @@ use Rattle.sw_job.specs.declared.turn.Operand.{Operand}
 use Rattle.sw_job.specs.declared.turn.Operand.TheVariants.{Value as Operation}
 use Rattle.sw_job.specs.declared.turn.Frame.{Frame}
 use Rattle.sw_job.specs.declared.code.FuncCode.{FuncCode}
-use Rattle.sw_job.specs.Machine.{frame, instr_in, fetch, CodeNext, CodeGoes, CodeStops, CodeBad, on_value, on_text, is_take, at_take, not_take, code_give, code_act, code_act_at, CodeEnds, CodeStuck, code_then, code_run}
-use Rattle.swda.specs.Meaning.{Todo, Await, Held, Part, Kind, TreeFrame, Fr, TreeNext, TreeGoes, TreeStops, TreeBad, give, on_part, with_text}
-use Rattle.swda.proofs.Track.{Scope, HasAt, on_none, Track, item, scope, vals, outer, full, below, AtEnd, Stands, Good}
+use Rattle.sw_job.specs.Machine.{Outcome, Gives, Traps, Wrong, frame, instr_in, fetch, CodeNext, CodeGoes, CodeStops, CodeBad, on_value, on_text, on_outcome, is_take, at_take, not_take, code_give, code_act, code_act_at, CodeEnds, CodeStuck, code_then, code_run}
+use Rattle.swda.specs.Meaning.{Todo, Await, Held, Var, Part, Kind, TreeFrame, Fr, TreeNext, TreeGoes, TreeStops, TreeBad, give, on_part, with_text, with_outcome}
+use Rattle.swda.specs.Codes.{Scope}
+use Rattle.swda.proofs.Track.{HasAt, on_none, Track, item, scope, vals, outer, full, below, AtEnd, Stands, Good}
 
 pub has_front : (instrs : List Instr) (p : ℕ) (a b : List Instr) → HasAt instrs p (a ++ b) → HasAt instrs p a
 has_front instrs p [] b h = tt
@@ -107,17 +108,25 @@ on_part_makes code max h tail ops go code_go scope_go sc1 e = subst (λ o. on_no
   where
     by : (h : List Held) → on_none (scope h) scope_go ≡ Some sc1 → ((v : Value) (h1 : List Held) → scope_go (scope h1) ≡ Some sc1 → Makes code max (go v h1) (code_go v (vals h1 ++ tail))) → Makes code max (on_part h go) (on_value (vals h ++ tail) code_go)
     by [] x y = absurd (cc)
+    by (Var d v ∷ h1) x y = absurd (cc)
     by (Part v ∷ h1) x y = y v h1 x
 
 -- the part that was evaluated last, where the code looks at no operand
 pub on_part_follows : (code : List FuncCode) (max : ℕ) (h : List Held) (go : Value → List Held → TreeNext) (scope_go : Scope → Option Scope) (sc1 : Scope) (m : Frame) (ms : List Frame) (n : ℕ) → on_none (scope h) scope_go ≡ Some sc1 → ((v : Value) (h1 : List Held) → h ≡ Part v ∷ h1 → scope_go (scope h1) ≡ Some sc1 → Follows code max (go v h1) m ms n) → Follows code max (on_part h go) m ms n
 on_part_follows code max [] go scope_go sc1 m ms n x y = absurd (cc)
+on_part_follows code max (Var d v ∷ h1) go scope_go sc1 m ms n x y = absurd (cc)
 on_part_follows code max (Part v ∷ h1) go scope_go sc1 m ms n x y = y v h1 refl x
 
 -- the text of a value
 pub text_makes : (code : List FuncCode) (max : ℕ) (o : Option (List ℕ)) (go : List ℕ → TreeNext) (code_go : List ℕ → CodeNext) → ((text : List ℕ) → Makes code max (go text) (code_go text)) → Makes code max (with_text o go) (on_text o code_go)
 text_makes code max None go code_go w = tt
 text_makes code max (Some text) go code_go w = w text
+
+-- what an operator gives
+pub outcome_makes : (code : List FuncCode) (max : ℕ) (o : Outcome) (n : ℕ) (go : Value → TreeNext) (code_go : Value → CodeNext) → ((v : Value) → Makes code max (go v) (code_go v)) → Makes code max (with_outcome o n go) (on_outcome o n code_go)
+outcome_makes code max (Gives v) n go code_go w = w v
+outcome_makes code max (Traps kind) n go code_go w = (refl, refl, tt)
+outcome_makes code max Wrong n go code_go w = tt
 
 -- a value is taken where Take stands alone
 at_take_is : (o : Option Instr) (next : CodeNext) → at_take o next ≡ (if is_take o then next else CodeBad)

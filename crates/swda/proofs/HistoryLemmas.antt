@@ -1,10 +1,10 @@
 -- Kept histories: they grow event by event, their labels replay, and each has one row for each event.
 use Rattle.std.proofs.Common.{◌≡◌, ℕ, zero, suc, ◌≤◌, max, List, [], ◌∷◌, ◌++◌, Option, Some, None, refl, sym, ap, ◌∙◌, subst, arith}
-use Rattle.std.specs.Prelude.{slice_get, slice_set}
+use Rattle.std.specs.Prelude.{slice_get, slice_set, is_some, if◌then◌else◌}
 use Rattle.std.specs.Option.{option_map}
 use Rattle.sw_job.specs.declared.turn.Ask.TheVariants.{Print as AskPrint}
 use Rattle.sw_job.specs.declared.turn.Exit.{Exit}
-use Rattle.sw_job.specs.declared.turn.Exit.TheVariants.{Ask, Return, Slice}
+use Rattle.sw_job.specs.declared.turn.Exit.TheVariants.{Ask, Return, Trap, Slice}
 use Rattle.sw_job.specs.declared.turn.Given.{Given}
 use Rattle.swda.specs.declared.history.Event.{Event}
 use Rattle.swda.specs.declared.history.Event.TheVariants.{Turn}
@@ -41,6 +41,7 @@ at_limit : (given : Given) (left : List TreeFrame) (k b : ℕ) (x : Exit) (l : L
 at_limit given left k b Slice l r within sliced = subst (λ z. TreeReaches z given left (TreeEnds Slice l b)) (sliced refl) r
 at_limit given left k b (Ask a) l r within sliced = let t = tree_counted k given left r in let most = t.within in t.other slice_limit (λ x. cc) (omega arith)
 at_limit given left k b (Return v) l r within sliced = let t = tree_counted k given left r in let most = t.within in t.other slice_limit (λ x. cc) (omega arith)
+at_limit given left k b (Trap kind) l r within sliced = let t = tree_counted k given left r in let most = t.within in t.other slice_limit (λ x. cc) (omega arith)
 
 exits_same : (s : MeaningState) (j : ℕ) (a a' : Activation) (x x' : Exit) (l l' : List TreeFrame) (b b' : ℕ) → a ≡ a' → x ≡ x' → l ≡ l' → b ≡ b' → after_exit s j a x l b ≡ after_exit s j a' x' l' b'
 exits_same s j a a' x x' l l' b b' p q r e =
@@ -99,6 +100,7 @@ after_one s j a x l b z one = subst (λ n. HasOneJob (after_exit s n a x l b)) (
     go : (x : Exit) → HasOneJob (after_exit s 0 a x l b)
     go (Ask (AskPrint text)) = record { job = _; only = set_one one.job _ s.activations one.only }
     go (Return v) = record { job = _; only = set_one one.job _ s.activations one.only }
+    go (Trap kind) = record { job = one.job; only = one.only }
     go Slice = record { job = _; only = set_one one.job _ s.activations one.only }
 
 row_of_one : (s : MeaningState) (e : Event) (labels : List Label) (t : MeaningState) → HasOneJob s → Row s e labels t → (next s ≡ Some e) × HasOneJob t
@@ -106,7 +108,7 @@ row_of_one s (Turn j) labels t one row =
     let turn = row.2.turn in
     let here = first_of_one one.job j.0 turn.activation (ap (λ os. slice_get os j.0) (sym one.only) ∙ turn.is_ready) in
     let j_is : job 0 ≡ j = ap job (sym here.0) in (
-      ap (λ os. option_map (λ k. Turn (job k)) (first_ready 0 os)) one.only ∙ ap (option_map (λ k. Turn (job k))) here.1 ∙ ap (λ k. Some (Turn k)) j_is,
+      ap (λ o. if is_some o then None else option_map (λ k. Turn (job k)) (first_ready 0 s.activations)) turn.untrapped ∙ ap (λ os. option_map (λ k. Turn (job k)) (first_ready 0 os)) one.only ∙ ap (option_map (λ k. Turn (job k))) here.1 ∙ ap (λ k. Some (Turn k)) j_is,
       subst HasOneJob (sym turn.after) (after_one s j.0 turn.activation turn.exit turn.left turn.begun here.0 one),
     )
 

@@ -1,3 +1,5 @@
+pub mod SumLemmas
+pub mod NameLemmas
 pub mod SourceLemmas
 pub mod ReportLemmas
 pub mod TopLemmas
@@ -5,10 +7,12 @@ pub mod LoweringLemmas
 pub mod Reaches
 pub mod Track
 pub mod Follow
+pub mod Vars
 pub mod Cases
 pub mod Runs
 pub mod Whole
 pub mod HistoryLemmas
+pub mod Untrapped
 pub mod Typing
 pub mod WorldLemmas
 pub mod TurnLemmas

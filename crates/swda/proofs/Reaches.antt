@@ -2,18 +2,18 @@
 use Rattle.std.proofs.Common.{◌≡◌, ℕ, zero, suc, ◌+◌, ◌≤◌, max, List, [], ◌∷◌, Option, Some, None, refl, sym, ap, ◌∙◌, subst, arith, Bool, true, false}
 use Rattle.std.specs.Prelude.{nat_lt, if◌then◌else◌}
 use Rattle.std.proofs.lemmas.Bool.{ltb-true, ltb-false, lt-ltb}
-use Rattle.sw_tree.specs.declared.Expr.TheVariants.{Str as StrExpr}
+use Rattle.sw_tree.specs.Tree.{Int as IntExpr, Str as StrExpr, Var as VarExpr, Add as AddExpr}
 use Rattle.sw_job.specs.declared.value.Value.{Value}
 use Rattle.sw_job.specs.declared.value.Value.TheVariants.{Void}
 use Rattle.sw_job.specs.declared.turn.Frame.{Frame}
 use Rattle.sw_job.specs.declared.turn.Exit.{Exit}
-use Rattle.sw_job.specs.declared.turn.Exit.TheVariants.{Ask, Return, Slice}
+use Rattle.sw_job.specs.declared.turn.Exit.TheVariants.{Ask, Return, Trap, Slice}
 use Rattle.sw_job.specs.declared.turn.Given.{Given}
 use Rattle.sw_job.specs.declared.turn.Given.TheVariants.{Nothing, Value as GivenValue}
 use Rattle.sw_job.specs.declared.code.FuncCode.{FuncCode}
-use Rattle.sw_job.specs.Machine.{printed, CodeNext, CodeGoes, CodeStops, CodeBad, code_step, code_begin, CodeEnds, code_then, code_run, CodeReaches}
+use Rattle.sw_job.specs.Machine.{printed, Outcome, Gives, Traps, Wrong, sum_of, CodeNext, CodeGoes, CodeStops, CodeBad, code_step, code_begin, CodeEnds, code_then, code_run, CodeReaches}
 use Rattle.sw_job.specs.Typed.{TypedStart}
-use Rattle.swda.specs.Meaning.{Todo, Eval, Exec, DoPrint, Await, Forget, Held, Part, Kind, Body, TreeFrame, Fr, TreeNext, TreeGoes, TreeStops, TreeBad, give, on_part, with_text, eval, expand, tree_act, tree_step, TreeEnds, tree_then, tree_run, tree_begin, TreeReaches}
+use Rattle.swda.specs.Meaning.{Todo, Eval, Exec, DoAdd, DoLet, DoPrint, Await, Forget, Held, Var, Part, Kind, Body, TreeFrame, Fr, TreeNext, TreeGoes, TreeStops, TreeBad, give, look, on_part, with_value, with_outcome, with_text, eval, expand, tree_act, tree_step, TreeEnds, tree_then, tree_run, tree_begin, TreeReaches}
 use Rattle.swda.specs.Carries.{SameTurn, Alike}
 
 -- two runs of the tree from the same frames that end, end alike
@@ -89,11 +89,21 @@ counted_same most n TreeBad s = tt
 
 part_same : (h : List Held) (n : ℕ) (go : Value → List Held → TreeNext) → ((v : Value) (rest : List Held) → Same (go v rest) n) → Same (on_part h go) n
 part_same [] n go s = tt
+part_same (Var x v ∷ h) n go s = tt
 part_same (Part v ∷ h) n go s = s v h
 
 text_same : (o : Option (List ℕ)) (n : ℕ) (go : List ℕ → TreeNext) → ((text : List ℕ) → Same (go text) n) → Same (with_text o go) n
 text_same None n go s = tt
 text_same (Some text) n go s = s text
+
+value_same : (o : Option Value) (n : ℕ) (go : Value → TreeNext) → ((v : Value) → Same (go v) n) → Same (with_value o go) n
+value_same None n go s = tt
+value_same (Some v) n go s = s v
+
+outcome_same : (o : Outcome) (n : ℕ) (go : Value → TreeNext) → ((v : Value) → Same (go v) n) → Same (with_outcome o n go) n
+outcome_same (Gives v) n go s = s v
+outcome_same (Traps kind) n go s = (refl, λ x. absurd (cc))
+outcome_same Wrong n go s = tt
 
 give_same : (v : Value) (fs : List TreeFrame) (n : ℕ) → Same (give v fs n) n
 give_same v [] n = (refl, λ x. absurd (cc))
@@ -102,7 +112,10 @@ give_same v (Fr k h [] ∷ fs) n = tt
 give_same v (Fr k h (i ∷ t) ∷ fs) n = tt
 
 act_counted : (most : ℕ) (i : Todo) (k : Kind) (h : List Held) (t : List Todo) (fs : List TreeFrame) (n : ℕ) → Counted most n (λ other. tree_act other i k h t fs n) (tree_act most i k h t fs n)
+act_counted most (Eval (IntExpr m)) k h t fs n = counted_same most n (eval (IntExpr m) k h t fs n) refl
 act_counted most (Eval (StrExpr text)) k h t fs n = counted_same most n (eval (StrExpr text) k h t fs n) refl
+act_counted most (Eval (VarExpr x)) k h t fs n = counted_same most n (eval (VarExpr x) k h t fs n) (value_same (look x h) n _ (λ v. refl))
+act_counted most (Eval (AddExpr a b)) k h t fs n = counted_same most n (eval (AddExpr a b) k h t fs n) refl
 act_counted most (Exec s) k h t fs n = go (nat_lt n most) (ltb-true n most) (ltb-false n most)
   where
     go : (b : Bool) → (b ≡ true → suc n ≤ most) → (b ≡ false → most ≤ n) → Counted most n (λ other. if nat_lt n other then TreeGoes (Fr k h (expand s t) ∷ fs) (n + 1) else TreeStops Slice (Fr k h (Exec s ∷ t) ∷ fs) n) (if b then TreeGoes (Fr k h (expand s t) ∷ fs) (n + 1) else TreeStops Slice (Fr k h (Exec s ∷ t) ∷ fs) n)
@@ -110,6 +123,8 @@ act_counted most (Exec s) k h t fs n = go (nat_lt n most) (ltb-true n most) (ltb
         let may = lt refl in
         (omega arith, λ l. omega arith, λ other l. ap (λ z. if z then TreeGoes (Fr k h (expand s t) ∷ fs) (n + 1) else TreeStops Slice (Fr k h (Exec s ∷ t) ∷ fs) n) (lt-ltb n other (omega arith)))
     go false lt ge = (refl, λ x. ge refl, λ other x. absurd (x refl))
+act_counted most DoAdd k h t fs n = counted_same most n (tree_act most DoAdd k h t fs n) (part_same h n _ (λ y h1. part_same h1 n _ (λ x h2. outcome_same (sum_of x y) n _ (λ v. refl))))
+act_counted most (DoLet x) k h t fs n = counted_same most n (tree_act most (DoLet x) k h t fs n) (part_same h n _ (λ v rest. refl))
 act_counted most DoPrint k h t fs n = counted_same most n (tree_act most DoPrint k h t fs n) (part_same h n _ (λ v rest. text_same (printed v) n _ (λ text. (refl, λ x. absurd (cc)))))
 act_counted most Await k h t fs n = tt
 act_counted most Forget k h t fs n = counted_same most n (tree_act most Forget k h t fs n) (part_same h n _ (λ v rest. refl))
@@ -197,5 +212,8 @@ turn_counted most given fs {e} {left} {b} l p = go e (tree_counted most given fs
         let within = t.within in
         (t.other (max 1 b) (λ x. absurd (cc)) (omega arith), λ x. absurd (cc), omega arith)
     go (Return v) t p =
+        let within = t.within in
+        (t.other (max 1 b) (λ x. absurd (cc)) (omega arith), λ x. absurd (cc), omega arith)
+    go (Trap kind) t p =
         let within = t.within in
         (t.other (max 1 b) (λ x. absurd (cc)) (omega arith), λ x. absurd (cc), omega arith)

@@ -2,27 +2,31 @@
 use Rattle.std.proofs.Common.{◌⊎◌, inl, inr, ◌≡◌, ℕ, zero, suc, ◌+◌, ◌<◌, ◌≤◌, List, [], ◌∷◌, Option, Some, None, refl, sym, ◌∙◌, subst, arith, Bool, true, false}
 use Rattle.std.specs.Prelude.{nat_lt, if◌then◌else◌}
 use Rattle.std.proofs.lemmas.Bool.{ltb-true}
-use Rattle.sw_tree.specs.declared.Expr.{Expr}
-use Rattle.sw_tree.specs.declared.Expr.TheVariants.{Str as StrExpr}
+use Rattle.sw_tree.specs.Tree.{Expr, Int as IntExpr, Str as StrExpr, Var as VarExpr, Add as AddExpr}
 use Rattle.sw_job.specs.declared.value.Value.{Value}
 use Rattle.sw_job.specs.declared.value.Value.TheVariants.{Void}
 use Rattle.sw_job.specs.declared.turn.Frame.{Frame}
 use Rattle.sw_job.specs.declared.turn.Ask.TheVariants.{Print as AskPrint}
 use Rattle.sw_job.specs.declared.turn.Exit.TheVariants.{Ask, Slice}
 use Rattle.sw_job.specs.declared.code.FuncCode.{FuncCode}
-use Rattle.sw_job.specs.Machine.{printed, CodeEnds, CodeStuck, code_run}
-use Rattle.swda.specs.Meaning.{Todo, Eval, Exec, DoPrint, Await, Forget, Held, Part, Kind, Body, TreeFrame, Fr, TreeNext, TreeGoes, TreeStops, TreeBad, give, on_part, with_text, eval, expand, tree_act, tree_step, TreeEnd, TreeEnds, TreeOpen, TreeStuck, tree_then, tree_run}
+use Rattle.sw_job.specs.Machine.{printed, Outcome, Gives, Traps, Wrong, sum_of, CodeEnds, CodeStuck, code_run}
+use Rattle.swda.specs.Meaning.{Todo, Eval, Exec, DoAdd, DoLet, DoPrint, Await, Forget, Held, Var, Part, Kind, Body, TreeFrame, Fr, TreeNext, TreeGoes, TreeStops, TreeBad, give, look, on_part, with_value, with_outcome, with_text, eval, expand, tree_act, tree_step, TreeEnd, TreeEnds, TreeOpen, TreeStuck, tree_then, tree_run}
 use Rattle.swda.proofs.Track.{below, Good}
 use Rattle.swda.proofs.Follow.{Comes, Follows}
 use Rattle.swda.proofs.Cases.{step_follows}
 
 -- a step lowers this, or begins a statement: a statement that is left to do weighs nothing
 abbrev pub weigh : Expr → ℕ
+weigh (IntExpr m) = 1
 weigh (StrExpr text) = 1
+weigh (VarExpr x) = 1
+weigh (AddExpr a b) = weigh a + weigh b + 2
 
 abbrev pub weigh_todo : Todo → ℕ
 weigh_todo (Eval e) = weigh e
 weigh_todo (Exec s) = 0
+weigh_todo DoAdd = 1
+weigh_todo (DoLet x) = 1
 weigh_todo DoPrint = 1
 weigh_todo Await = 0
 weigh_todo Forget = 1
@@ -43,11 +47,21 @@ Falls max TreeBad w n = Unit {0}
 
 part_falls : (max : ℕ) (h : List Held) (go : Value → List Held → TreeNext) (w n : ℕ) → ((v : Value) (h1 : List Held) → Falls max (go v h1) w n) → Falls max (on_part h go) w n
 part_falls max [] go w n f = tt
+part_falls max (Var x v ∷ h) go w n f = tt
 part_falls max (Part v ∷ h) go w n f = f v h
 
 text_falls : (max : ℕ) (o : Option (List ℕ)) (go : List ℕ → TreeNext) (w n : ℕ) → ((text : List ℕ) → Falls max (go text) w n) → Falls max (with_text o go) w n
 text_falls max None go w n f = tt
 text_falls max (Some text) go w n f = f text
+
+value_falls : (max : ℕ) (o : Option Value) (go : Value → TreeNext) (w n : ℕ) → ((v : Value) → Falls max (go v) w n) → Falls max (with_value o go) w n
+value_falls max None go w n f = tt
+value_falls max (Some v) go w n f = f v
+
+outcome_falls : (max : ℕ) (o : Outcome) (go : Value → TreeNext) (w n : ℕ) → ((v : Value) → Falls max (go v) w n) → Falls max (with_outcome o n go) w n
+outcome_falls max (Gives v) go w n f = f v
+outcome_falls max (Traps kind) go w n f = tt
+outcome_falls max Wrong go w n f = tt
 
 give_falls : (max : ℕ) (v : Value) (fs : List TreeFrame) (w n : ℕ) → weight fs < w → Falls max (give v fs n) w n
 give_falls max v [] w n l = tt
@@ -56,7 +70,10 @@ give_falls max v (Fr k h [] ∷ fs) w n l = tt
 give_falls max v (Fr k h (i ∷ t) ∷ fs) w n l = tt
 
 eval_falls : (max : ℕ) (e : Expr) (k : Kind) (h : List Held) (t : List Todo) (fs : List TreeFrame) (n : ℕ) → Falls max (eval e k h t fs n) (weight (Fr k h (Eval e ∷ t) ∷ fs)) n
+eval_falls max (IntExpr m) k h t fs n = inl (refl, omega arith)
 eval_falls max (StrExpr text) k h t fs n = inl (refl, omega arith)
+eval_falls max (VarExpr x) k h t fs n = value_falls max (look x h) (λ v. TreeGoes (Fr k (Part v ∷ h) t ∷ fs) n) _ n (λ v. inl (refl, omega arith))
+eval_falls max (AddExpr a b) k h t fs n = inl (refl, omega arith)
 
 act_falls : (max : ℕ) (i : Todo) (k : Kind) (h : List Held) (t : List Todo) (fs : List TreeFrame) (n : ℕ) → Falls max (tree_act max i k h t fs n) (weight (Fr k h (i ∷ t) ∷ fs)) n
 act_falls max (Eval e) k h t fs n = eval_falls max e k h t fs n
@@ -65,6 +82,9 @@ act_falls max (Exec s) k h t fs n = go (nat_lt n max) (ltb-true n max)
     go : (b : Bool) → (b ≡ true → n < max) → Falls max (if b then TreeGoes (Fr k h (expand s t) ∷ fs) (n + 1) else TreeStops Slice (Fr k h (Exec s ∷ t) ∷ fs) n) (weight (Fr k h (Exec s ∷ t) ∷ fs)) n
     go true lt = inr (lt refl, refl)
     go false lt = tt
+act_falls max DoAdd k h t fs n =
+    part_falls max h (λ y h1. on_part h1 (λ x h2. with_outcome (sum_of x y) n (λ v. TreeGoes (Fr k (Part v ∷ h2) t ∷ fs) n))) _ n (λ y h1. part_falls max h1 (λ x h2. with_outcome (sum_of x y) n (λ v. TreeGoes (Fr k (Part v ∷ h2) t ∷ fs) n)) _ n (λ x h2. outcome_falls max (sum_of x y) (λ v. TreeGoes (Fr k (Part v ∷ h2) t ∷ fs) n) _ n (λ v. inl (refl, omega arith))))
+act_falls max (DoLet x) k h t fs n = part_falls max h (λ v h1. TreeGoes (Fr k (Var x v ∷ h1) t ∷ fs) n) _ n (λ v h1. inl (refl, omega arith))
 act_falls max DoPrint k h t fs n =
     part_falls max h (λ v h1. with_text (printed v) (λ text. TreeStops (Ask (AskPrint text)) (Fr k h1 (Await ∷ t) ∷ fs) n)) _ n (λ v h1. text_falls max (printed v) (λ text. TreeStops (Ask (AskPrint text)) (Fr k h1 (Await ∷ t) ∷ fs) n) _ n (λ text. tt))
 act_falls max Await k h t fs n = tt

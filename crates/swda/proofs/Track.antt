@@ -1,18 +1,14 @@
 -- The relation of the simulation: where what is left to do on the tree stands in the code, frame by frame.
 use Rattle.std.specs.Prelude.{◌≡◌, ℕ, ◌+◌, List, [], ◌∷◌, ◌++◌, length, Option, Some, None, slice_get, Bool, true, false}
 use Rattle.sw_job.specs.declared.instr.Instr.{Instr}
-use Rattle.sw_job.specs.declared.instr.Instr.TheVariants.{Print, Take, Discard, ReturnVoid}
+use Rattle.sw_job.specs.declared.instr.Instr.TheVariants.{Add, Print, Take, Discard, ReturnVoid}
 use Rattle.sw_job.specs.declared.turn.Operand.{Operand}
 use Rattle.sw_job.specs.declared.turn.Operand.TheVariants.{Value as Operation}
 use Rattle.sw_job.specs.declared.turn.Frame.{Frame}
 use Rattle.sw_job.specs.declared.code.FuncCode.{FuncCode}
 use Rattle.sw_job.specs.Machine.{fetch, is_take}
-use Rattle.swda.specs.Meaning.{Todo, Eval, Exec, DoPrint, Await, Forget, Held, Part, Kind, Body, TreeFrame, Fr}
-use Rattle.swda.specs.Codes.{expr_code, stmt_code}
-
--- what the operands of a frame are, the newest first: the variable of a number, or another operand
-abbrev pub Scope : Type 0
-Scope = List (Option ℕ)
+use Rattle.swda.specs.Meaning.{Todo, Eval, Exec, DoAdd, DoLet, DoPrint, Await, Forget, Held, Var, Part, Kind, Body, TreeFrame, Fr}
+use Rattle.swda.specs.Codes.{Scope, expr_code, stmt_code, scope_after}
 
 -- the instructions stand in the code at this place
 abbrev pub HasAt : List Instr → ℕ → List Instr → Type 0
@@ -21,8 +17,10 @@ HasAt instrs p (i ∷ is) = (slice_get instrs p ≡ Some i) × HasAt instrs (p +
 
 -- the code of one thing that is left to do, where the operands are these
 abbrev pub todo_code : Scope → Todo → List Instr
-todo_code sc (Eval e) = expr_code e
-todo_code sc (Exec s) = stmt_code s
+todo_code sc (Eval e) = expr_code sc e
+todo_code sc (Exec s) = stmt_code sc s
+todo_code sc DoAdd = Add ∷ []
+todo_code sc (DoLet x) = []
 todo_code sc DoPrint = Print ∷ Take ∷ []
 todo_code sc Await = Take ∷ []
 todo_code sc Forget = Discard 1 ∷ []
@@ -35,7 +33,9 @@ on_none _ go = None
 -- the operands of its own frame after it, or None where it does not fit them
 abbrev pub after : Todo → Scope → Option Scope
 after (Eval e) sc = Some (None ∷ sc)
-after (Exec s) sc = Some sc
+after (Exec s) sc = Some (scope_after sc s)
+after DoAdd sc = on_none sc (λ s1. on_none s1 (λ rest. Some (None ∷ rest)))
+after (DoLet x) sc = on_none sc (λ rest. Some (Some x ∷ rest))
 after DoPrint sc = on_none sc (λ rest. Some (None ∷ rest))
 after Await sc = Some (None ∷ sc)
 after Forget sc = on_none sc (λ rest. Some rest)
@@ -49,11 +49,13 @@ pub data Track (instrs : List Instr) (out : Scope) (r : ℕ) (last : Scope) : �
 -- what the operands of what is held are
 abbrev pub scope : List Held → Scope
 scope [] = []
+scope (Var x v ∷ h) = Some x ∷ scope h
 scope (Part v ∷ h) = None ∷ scope h
 
 -- the operands of what is held
 abbrev pub vals : List Held → List Operand
 vals [] = []
+vals (Var x v ∷ h) = Operation v ∷ vals h
 vals (Part v ∷ h) = Operation v ∷ vals h
 
 -- what lies beneath the operands of a frame in the frame of the code, where the frames below it have these

@@ -2,7 +2,7 @@
 use Rattle.std.proofs.Common.{◌≡◌, ℕ, suc, ◌+◌, ◌<◌, ◌≤◌, List, ◌∷◌, refl, ap, ◌∙◌, subst, arith}
 use Rattle.sw_job.specs.declared.turn.Frame.{Frame}
 use Rattle.sw_job.specs.declared.turn.Exit.{Exit}
-use Rattle.sw_job.specs.declared.turn.Exit.TheVariants.{Ask, Return, Slice}
+use Rattle.sw_job.specs.declared.turn.Exit.TheVariants.{Ask, Return, Trap, Slice}
 use Rattle.sw_job.specs.declared.turn.Given.{Given}
 use Rattle.sw_job.specs.declared.code.FuncCode.{FuncCode}
 use Rattle.sw_job.specs.Machine.{code_begin, code_run, code_step, code_then}
@@ -47,12 +47,14 @@ module _ (code : List FuncCode) (max : ℕ) (m0 m : Frame) (ms0 ms : List Frame)
   leaves_fewer : (exit : Exit) (before after first : ℕ) → 1 ≤ max → before + begun ≤ first → LeavesFewer max begun exit before after → after < first
   leaves_fewer (Ask ask) before after first some near less = omega arith
   leaves_fewer (Return v) before after first some near less = omega arith
+  leaves_fewer (Trap kind) before after first some near less = omega arith
   leaves_fewer Slice before after first some near less = omega (arith, less.0, less.1)
 
   -- what is ahead and what was begun are together no more than was ahead at first
   all_spent : (exit : Exit) (before after first : ℕ) → before + begun ≤ first → LeavesFewer max begun exit before after → begun + after ≤ first
   all_spent (Ask ask) before after first near less = omega arith
   all_spent (Return v) before after first near less = omega arith
+  all_spent (Trap kind) before after first near less = omega arith
   all_spent Slice before after first near less = omega (arith, less.0)
 
   pub run_ends : (answer : Next) (exit : Exit) (left : List Frame) (begun' : ℕ) → 1 ≤ max → Comes code max m0 ms0 m ms begun → StepTo code max m ms begun answer left → answer ≡ Stops exit begun' → RunEnds code max m0 ms0 (record { exit = exit; frames = left; begun = begun' })

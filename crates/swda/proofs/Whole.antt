@@ -3,9 +3,7 @@ use Rattle.std.proofs.Common.{◌⊎◌, inl, inr, ◌≡◌, ℕ, zero, suc, Li
 use Rattle.std.specs.Prelude.{slice_get}
 use Rattle.std.specs.Option.{option_map}
 use Rattle.std.proofs.lemmas.Option.{slice_get-map}
-use Rattle.sw_tree.specs.declared.Stmt.{Stmt}
-use Rattle.sw_tree.specs.declared.Stmt.TheVariants.{Print as PrintStmt}
-use Rattle.sw_tree.specs.declared.Func.{Func}
+use Rattle.sw_tree.specs.Tree.{Stmt, Func, Let as LetStmt, Print as PrintStmt}
 use Rattle.sw_job.specs.declared.value.Ty.TheVariants.{Void as VoidTy}
 use Rattle.sw_job.specs.declared.turn.Frame.{Frame}
 use Rattle.sw_job.specs.declared.turn.Exit.{Exit}
@@ -88,8 +86,9 @@ module _ (code : List FuncCode) where
 abbrev pub Knows : List Func → List FuncCode → Type 0
 Knows funcs code = (f : ℕ) → slice_get code f ≡ option_map func_code (slice_get funcs f)
 
-no_take_first : (body : List Stmt) → is_take (slice_get (body_code body) 0) ≡ false
+no_take_first : (body : List Stmt) → is_take (slice_get (body_code [] body) 0) ≡ false
 no_take_first [] = refl
+no_take_first (LetStmt x e ∷ body) = refl
 no_take_first (PrintStmt e ∷ body) = refl
 
 waits_not : (k : Kind) (body : List Stmt) → waits (Fr k [] (execs body []) ∷ []) ≡ false

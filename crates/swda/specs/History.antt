@@ -1,11 +1,11 @@
 -- Legal histories: which events may come, the labels that each has, and the driver's choice among them.
-use Rattle.std.specs.Prelude.{◌≡◌, ℕ, suc, ◌≤◌, max, List, [], ◌∷◌, Option, Some, None}
+use Rattle.std.specs.Prelude.{is_some, if◌then◌else◌, ◌≡◌, ℕ, suc, ◌≤◌, max, List, [], ◌∷◌, Option, Some, None}
 use Rattle.std.specs.Option.{option_map}
 use Rattle.std.specs.List.{flat_map}
 use Rattle.sw_base.specs.declared.ids.JobNo.{JobNo}
 use Rattle.sw_job.specs.declared.turn.Exit.TheVariants.{Slice}
 use Rattle.sw_job.specs.declared.turn.Given.TheVariants.{Nothing}
-use Rattle.sw_tree.specs.declared.Func.{Func}
+use Rattle.sw_tree.specs.Tree.{Func}
 use Rattle.swda.specs.declared.history.Event.{Event}
 use Rattle.swda.specs.declared.history.Event.TheVariants.{Turn}
 use Rattle.swda.specs.declared.history.Label.{Label}
@@ -49,9 +49,10 @@ first_ready j [] = None
 first_ready j (None ∷ activations) = first_ready (suc j) activations
 first_ready j (Some a ∷ activations) = Some j
 
--- the driver's next event: the turn of the job that became ready first. One root task makes one job
+-- the driver's next event: the turn of the job that became ready first, and none after a trap. One root task
+-- makes one job
 abbrev pub next : MeaningState → Option Event
-next s = option_map (λ j. Turn (job j)) (first_ready 0 s.activations)
+next s = if is_some s.trap then None else option_map (λ j. Turn (job j)) (first_ready 0 s.activations)
 
 -- the kept history of the driver's events, up to where none is next
 abbrev pub IsDriven : MeaningState → List Entry → MeaningState → Type 0
@@ -68,4 +69,5 @@ start main = record {
   activations = Some (record { serves = 0; node = 0; given = Nothing; left = entry main ∷ [] }) ∷ [];
   tasks = record { task = 0; node = record { 0 = 0 }; epoch = 0; end = Unfinished } ∷ [];
   begun = 0;
+  trap = None;
 }

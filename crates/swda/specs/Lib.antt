@@ -1,5 +1,6 @@
 pub mod Meaning
 pub mod Codes
+pub mod Drafts
 pub mod Carries
 pub mod State
 pub mod History

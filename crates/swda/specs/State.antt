@@ -4,7 +4,8 @@ use Rattle.std.specs.Prelude.{◌≡◌, ℕ, ◌+◌, ◌≤◌, List, [], ◌�
 use Rattle.sw_job.specs.declared.value.Value.TheVariants.{Void}
 use Rattle.sw_job.specs.declared.turn.Ask.TheVariants.{Print as AskPrint}
 use Rattle.sw_job.specs.declared.turn.Exit.{Exit}
-use Rattle.sw_job.specs.declared.turn.Exit.TheVariants.{Ask, Return, Slice}
+use Rattle.sw_job.specs.declared.value.TrapKind.{TrapKind}
+use Rattle.sw_job.specs.declared.turn.Exit.TheVariants.{Ask, Return, Trap, Slice}
 use Rattle.sw_job.specs.declared.turn.Given.{Given}
 use Rattle.sw_job.specs.declared.turn.Given.TheVariants.{Nothing, Value as GivenValue}
 use Rattle.swda.specs.declared.history.Label.{Label}
@@ -26,13 +27,14 @@ pub record Activation : Type 0 where
   pub given : Given
   pub left : List TreeFrame
 
--- the nodes; the activations by job number, none where a job has ended; the beginnings of root tasks; and how
--- many statements were begun
+-- the nodes; the activations by job number, none where a job has ended; the beginnings of root tasks; how many
+-- statements were begun; and the trap that ended the run, or none
 pub record MeaningState : Type 0 where
   pub nodes : List NodeState
   pub activations : List (Option Activation)
   pub tasks : List TaskLine
   pub begun : ℕ
+  pub trap : Option TrapKind
 
 -- one more line of a node's log
 abbrev pub print_line : List NodeState → ℕ → List ℕ → List NodeState
@@ -50,29 +52,40 @@ end_task tasks at = ended (slice_get tasks at)
     ended None = tasks
     ended (Some t) = slice_set tasks at (record { task = t.task; node = t.node; epoch = t.epoch; end = Returned })
 
--- what the exit of a turn does: the job j is ready again, or it has ended
+-- what the exit of a turn does: the job j is ready again, or it has ended, or the run has
 abbrev pub after_exit : MeaningState → ℕ → Activation → Exit → List TreeFrame → ℕ → MeaningState
 after_exit s j a (Ask (AskPrint text)) left n = record {
   nodes = print_line s.nodes a.node text;
   activations = slice_set s.activations j (Some (record { serves = a.serves; node = a.node; given = GivenValue Void; left = left }));
   tasks = s.tasks;
   begun = s.begun + n;
+  trap = s.trap;
 }
 after_exit s j a (Return v) left n = record {
   nodes = s.nodes;
   activations = slice_set s.activations j None;
   tasks = end_task s.tasks a.serves;
   begun = s.begun + n;
+  trap = s.trap;
+}
+after_exit s j a (Trap kind) left n = record {
+  nodes = s.nodes;
+  activations = s.activations;
+  tasks = s.tasks;
+  begun = s.begun + n;
+  trap = Some kind;
 }
 after_exit s j a Slice left n = record {
   nodes = s.nodes;
   activations = slice_set s.activations j (Some (record { serves = a.serves; node = a.node; given = Nothing; left = left }));
   tasks = s.tasks;
   begun = s.begun + n;
+  trap = s.trap;
 }
 
 -- from state s the job j, which is ready, takes a turn of at most k statements to state t
 pub record Turns (s : MeaningState) (j k : ℕ) (t : MeaningState) : Type 0 where
+  pub untrapped : s.trap ≡ None
   pub activation : Activation
   pub is_ready : slice_get s.activations j ≡ Some (Some activation)
   pub some : 1 ≤ k

@@ -4,10 +4,18 @@ use Rattle.sw_job.specs.declared.turn.Frame.{Frame}
 use Rattle.sw_job.specs.declared.turn.Given.{Given}
 use Rattle.sw_job.specs.declared.turn.TurnEnd.{TurnEnd}
 use Rattle.sw_job.specs.declared.code.FuncCode.{FuncCode}
-use Rattle.sw_job.specs.Machine.{CodeNext, CodeGoes, CodeStops, CodeBad, CodeEnds, code_run, code_step, code_begin}
+use Rattle.sw_job.specs.Machine.{Outcome as CodeOutcome, Gives as CodeGives, Traps as CodeTraps, Wrong as CodeWrong, CodeNext, CodeGoes, CodeStops, CodeBad, CodeEnds, code_run, code_step, code_begin}
 use Rattle.sw_job.specs.Typed.{TypedLeft, all_ahead, Safe, Begins}
 use Rattle.swda.specs.declared.machine.Next.{Next}
 use Rattle.swda.specs.declared.machine.Next.TheVariants.{Goes, Stops, Bad}
+use Rattle.swda.specs.declared.machine.Outcome.{Outcome}
+use Rattle.swda.specs.declared.machine.Outcome.TheVariants.{Gives, Traps, Wrong}
+
+-- what an operator's answer says
+abbrev pub outcome_of : Outcome → CodeOutcome
+outcome_of (Gives v) = CodeGives v
+outcome_of (Traps kind) = CodeTraps kind
+outcome_of Wrong = CodeWrong
 
 -- what an answer says, with the frames that are below or left
 abbrev pub next_of : Next → List Frame → CodeNext

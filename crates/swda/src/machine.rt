@@ -1,17 +1,20 @@
 //! The job machine, which runs a turn of a job on code whose operand types agree.
 
-ghost use Rattle.std.specs.Prelude.{◌≡◌, ◌+◌, ◌<◌, ◌≤◌, [], ◌∷◌, drop, IfOk};
+ghost use Rattle.std.specs.Prelude.{◌≡◌, ◌+◌, ◌<◌, ◌≤◌, List, [], ◌∷◌, drop, IfOk};
 ghost use Rattle.std.specs.Bool.{OnTrue};
-ghost use Rattle.sw_job.specs.Machine.{frame, fetch, is_take, code_act, code_begin, code_give, code_step, CodeEnds, CodeReaches};
+ghost use Rattle.sw_job.specs.Machine.{frame, fetch, is_take, printed, sum_of, code_act, code_begin, code_give, code_step, CodeEnds, CodeReaches};
 ghost use Rattle.sw_job.specs.Typed.{all_ahead, TypedFrames, TypedLeft, TypedStart};
-ghost use Rattle.sw_job.specs.declared.instr.Instr.TheVariants.{Begin, Discard, Print, PushStr};
+ghost use Rattle.sw_job.specs.declared.instr.Instr.TheVariants.{Add, Begin, Load, Print};
+ghost use Rattle.sw_job.specs.declared.turn.Frame.{Frame};
 ghost use Rattle.sw_job.specs.declared.turn.Given.TheVariants.{Value as GivenValue};
 ghost use Rattle.sw_job.specs.declared.turn.Operand.TheVariants.{Value as Operation};
-ghost use Rattle.swda.specs.Turn.{BeginTo, IsNext, RunEnds, StepTo};
+ghost use Rattle.swda.specs.Turn.{outcome_of, BeginTo, IsNext, RunEnds, StepTo};
 
 use std::alloc::Global;
-use sw_base::{Duplicate, NoMemory, Text};
-use sw_job::{Ask, Code, Exit, Frame, Frames, Given, Instr, Operand, TurnEnd, TurnStart, Value};
+use sw_base::{Duplicate, NoMemory, Stack, Text};
+use sw_job::{
+    Ask, Code, Exit, Frame, Frames, Given, Instr, Operand, TrapKind, TurnEnd, TurnStart, Value,
+};
 
 /// What an instruction leads to, beside the frames below, which it changes in place.
 #[derive(Drop)]
@@ -24,18 +27,30 @@ enum Next {
     Bad,
 }
 
-/// Runs one turn of a job: up to an ask, to its func's return, or to just before the statement that would be
-/// one too many. The start stays as it is, so nothing is lost where memory runs out.
-pub fn run_job(alloc: Global, code: &Code, start: &TurnStart, max: u64) -> Result<TurnEnd, NoMemory>
-    requires typed { TypedStart code.now start.now.given start.now.frames }
+/// What an operator gives.
+#[derive(Drop)]
+enum Outcome {
+    /// This value.
+    Gives(Value),
+    /// The run of all nodes ends.
+    Traps(TrapKind),
+    /// The operator has no meaning for these values: typed code never comes to it.
+    Wrong,
+}
+
+/// Runs one turn of a job: up to an ask, to its func's return, to a trap, or to just before the statement
+/// that would be one too many. The turn takes the frames of its start as they are; where memory runs out they
+/// are gone.
+pub fn run_job(alloc: Global, code: &Code, start: TurnStart, max: u64) -> Result<TurnEnd, NoMemory>
+    requires typed { TypedStart code.now start.given start.frames }
     requires some { 1 ≤ max }
-    ensures run { IfOk result (λ end. CodeReaches code.now max start.now.given start.now.frames (CodeEnds end.exit end.frames end.begun)) }
+    ensures run { IfOk result (λ end. CodeReaches code.now max start.given start.frames (CodeEnds end.exit end.frames end.begun)) }
     ensures left { IfOk result (λ end. TypedLeft code.now end.exit end.frames) }
-    ensures nearer { IfOk result (λ end. all_ahead code.now end.frames < all_ahead code.now start.now.frames) }
+    ensures nearer { IfOk result (λ end. all_ahead code.now end.frames < all_ahead code.now start.frames) }
     ensures counted { IfOk result (λ end. end.begun ≤ max) }
-    ensures spent { IfOk result (λ end. end.begun + all_ahead code.now end.frames ≤ all_ahead code.now start.now.frames) }
+    ensures spent { IfOk result (λ end. end.begun + all_ahead code.now end.frames ≤ all_ahead code.now start.frames) }
 {
-    let TurnStart { mut frames, given } = start.copy()?;
+    let TurnStart { mut frames, given } = start;
     match typed_begin(code, given, &mut frames)? {
         Next::Goes(top, _) => run(alloc, code, max, top, frames),
         Next::Stops(exit, begun) => Ok(TurnEnd {
@@ -170,8 +185,11 @@ fn act(
 {
     match instr {
         Instr::Begin => begin_statement(max, top, below, begun),
+        Instr::PushInt(n) => push(Value::Int(*n), top, begun),
         Instr::PushStr(text) => push_text(alloc, text, top, begun),
-        Instr::Print => print(top, below, begun),
+        Instr::Load(depth) => load(*depth, top, begun),
+        Instr::Add => add(alloc, top, below, begun),
+        Instr::Print => print(alloc, top, below, begun),
         Instr::Take => Ok(Next::Bad),
         Instr::Discard(count) => Ok(discard(*count, top, begun)),
         Instr::ReturnVoid => give(code, Value::Void, below, begun),
@@ -200,18 +218,78 @@ fn push_text(alloc: Global, text: &Text, top: Frame, begun: u64) -> Result<Next,
     push(Value::Str(text), top, begun)
 }
 
+// A copy of the operand at this depth.
+fn load(depth: usize, top: Frame, begun: u64) -> Result<Next, NoMemory>
+    requires { top.place < usize.MAX }
+    ensures { IfOk result (λ next. (below : List Frame) → IsNext (code_act [] 0 (Load depth) top.func.0 top.place top.operands below begun) next below) }
+{
+    let Some(Operand::Value(held)) = top.operands.get(depth) else {
+        return Ok(Next::Bad);
+    };
+    let copied = held.copy()?;
+    push(copied, top, begun)
+}
+
+// The sum of the two newest operands, of which the newest is the right one; or a trap, which no frame outlives.
+fn add(alloc: Global, top: Frame, below: &mut Frames, begun: u64) -> Result<Next, NoMemory>
+    requires { top.place < usize.MAX }
+    ensures { IfOk result (λ next. IsNext (code_act [] 0 Add top.func.0 top.place top.operands below.old begun) next below.new) }
+{
+    let mut rest = top;
+    let Some(Operand::Value(right)) = rest.operands.pop() else {
+        return Ok(Next::Bad);
+    };
+    let Some(Operand::Value(left)) = rest.operands.pop() else {
+        return Ok(Next::Bad);
+    };
+    match sum(left, right) {
+        Outcome::Gives(value) => push(value, rest, begun),
+        Outcome::Traps(kind) => {
+            *below = Stack::new(alloc);
+            Ok(Next::Stops(Exit::Trap(kind), begun))
+        }
+        Outcome::Wrong => Ok(Next::Bad),
+    }
+}
+
+fn sum(left: Value, right: Value) -> Outcome
+    ensures { outcome_of result ≡ sum_of left right }
+{
+    match (left, right) {
+        (Value::Int(left), Value::Int(right)) => match left.checked_add(right) {
+            Some(sum) => Outcome::Gives(Value::Int(sum)),
+            None => Outcome::Traps(TrapKind::Overflow),
+        },
+        _ => Outcome::Wrong,
+    }
+}
+
 // The newest operand is asked to be printed, and what the ask gives is awaited.
-fn print(top: Frame, below: &mut Frames, begun: u64) -> Result<Next, NoMemory>
+fn print(alloc: Global, top: Frame, below: &mut Frames, begun: u64) -> Result<Next, NoMemory>
     requires { top.place < usize.MAX }
     ensures { IfOk result (λ next. IsNext (code_act [] 0 Print top.func.0 top.place top.operands below.old begun) next below.new) }
 {
     let mut waiting = advanced(top);
-    match waiting.operands.pop() {
-        Some(Operand::Value(Value::Str(text))) => {
+    let Some(Operand::Value(value)) = waiting.operands.pop() else {
+        return Ok(Next::Bad);
+    };
+    match text_of(alloc, value)? {
+        Some(text) => {
             below.push(waiting)?;
             Ok(Next::Stops(Exit::Ask(Ask::Print(text)), begun))
         }
-        _ => Ok(Next::Bad),
+        None => Ok(Next::Bad),
+    }
+}
+
+// The text of a value that can be printed.
+fn text_of(alloc: Global, value: Value) -> Result<Option<Text>, NoMemory>
+    ensures { IfOk result (λ text. text ≡ printed value) }
+{
+    match value {
+        Value::Int(n) => Ok(Some(Text::from(n.to_string(alloc)?.into_bytes()))),
+        Value::Str(text) => Ok(Some(text)),
+        Value::Void => Ok(None),
     }
 }
 

@@ -1,7 +1,8 @@
 //! One run: from the body of a main to the report of its world.
 
-ghost use Rattle.std.specs.Prelude.{◌≡◌, ◌∷◌, [], IfOk, length};
-ghost use Rattle.swda.specs.Source.{main_func, main_tree};
+ghost use Rattle.std.specs.Prelude.{◌≡◌, ◌∷◌, [], None, IfOk, length};
+ghost use Rattle.sw_tree.specs.Trees.{body_of, funcs_of};
+ghost use Rattle.swda.specs.Source.{IsThin, main_func};
 ghost use Rattle.swda.specs.Report.{report_text};
 ghost use Rattle.swda.specs.World.{state_of};
 ghost use Rattle.swda.specs.Answers.{Reports};
@@ -18,7 +19,7 @@ const MAIN: FuncNo = FuncNo(0);
 
 // The tree of a source whose one func is the root task's.
 fn main_tree(alloc: Global, body: Items<Stmt>) -> Result<Tree, NoMemory>
-    ensures { IfOk result (λ tree. tree ≡ main_tree body) }
+    ensures { IfOk result (λ tree. funcs_of tree ≡ main_func (body_of body) ∷ []) }
 {
     let name = Text::from_bytes(alloc, b"main")?;
     let mut funcs = Items::new(alloc);
@@ -28,7 +29,7 @@ fn main_tree(alloc: Global, body: Items<Stmt>) -> Result<Tree, NoMemory>
 
 // The report of a world.
 fn report(alloc: Global, world: &World) -> Result<Text, NoMemory>
-    ensures { IfOk result (λ text. text ≡ report_text (state_of world.now.job world.now.log world.now.begun []) (length world.now.history)) }
+    ensures { IfOk result (λ text. text ≡ report_text (state_of world.now.job world.now.log world.now.begun None) (length world.now.history)) }
 {
     let mut out = Text::from_bytes(alloc, b"end done\n")?;
     push_counts(alloc, &mut out, world.begun(), world.history().len() as u64)?;
@@ -38,16 +39,20 @@ fn report(alloc: Global, world: &World) -> Result<Text, NoMemory>
     Ok(out)
 }
 
-/// Lowers the main of this body, drives its world to the end, and writes the report.
+/// Lowers the main of a thin source, drives its world to the end, and writes the report.
 pub fn report_of(alloc: Global, body: Items<Stmt>) -> Result<Text, NoMemory>
-    ensures { IfOk result (λ text. Reports (main_func body) text) }
+    requires { IsThin (body_of body) }
+    ensures { IfOk result (λ text. Reports (main_func (body_of body)) text) }
 {
     let tree = main_tree(alloc, body)?;
     let code = lower(alloc, &tree)?;
     let mut world = World::new(alloc, code, MAIN)?;
     world.drive()?;
-    // What happened is the legal history of the tree.
+    // What happened is the legal history of the tree, and no sum of a thin source overflows.
     let _ = world.history();
+    if world.trap().is_some() {
+        unreachable!();
+    }
     let text = report(alloc, &world)?;
     Ok(text)
 }

@@ -86,6 +86,149 @@ fn runs_are_reported(rt: HostRuntime) {
     expect_answer(&rt, alloc, call_over(RUN, no_line), 0, NO_LINE_REPORT);
 }
 
+/// The source of a main with these body lines, each with its end.
+fn source_of(alloc: Global, lines: &[u8]) -> Result<Text, NoMemory> {
+    let mut source = Text::from_bytes(alloc, b"func main(system: NodeSystem) async throws {\n")?;
+    source.push_all(lines)?;
+    source.push_all(b"}\n")?;
+    Ok(source)
+}
+
+/// The report of a run without faults, from its counts and its lines `log`.
+fn report_of(alloc: Global, statements: u64, events: u64, logs: &[u8]) -> Result<Text, NoMemory> {
+    let mut report = Text::from_bytes(alloc, b"end done\nstatements ")?;
+    report.push_all(statements.to_string(alloc)?.as_bytes())?;
+    report.push_all(b"\nevents ")?;
+    report.push_all(events.to_string(alloc)?.as_bytes())?;
+    report.push_all(
+        b"\ncalls 0\nstarted 0\nwaited 0\nsent 0\nlost 0\ndelivered 0\nnoise 0\nnode 0 restarts 0\n",
+    )?;
+    report.push_all(logs)?;
+    report.push_all(b"task 0 node 0 epoch 0 returned\n")?;
+    Ok(report)
+}
+
+/// So many `let` lines, from the one with this number on.
+fn push_lets(alloc: Global, lines: &mut Text, first: u64, count: u64) -> Result<(), NoMemory> {
+    for i in 0..count {
+        lines.push_all(b"  let v")?;
+        lines.push_all(first.saturating_add(i).to_string(alloc)?.as_bytes())?;
+        lines.push_all(b" = 1\n")?;
+    }
+    Ok(())
+}
+
+/// The line that prints a sum of so many integers, the greatest there are.
+fn print_of_terms(alloc: Global, terms: u64) -> Result<Text, NoMemory> {
+    let mut line = Text::from_bytes(alloc, b"  print(999999999")?;
+    for _ in 1..terms {
+        line.push_all(b" + 999999999")?;
+    }
+    line.push_all(b")\n")?;
+    Ok(line)
+}
+
+/// Expects the report of a run of these body lines.
+fn expect_run(
+    rt: &impl Abort,
+    alloc: Global,
+    lines: &[u8],
+    statements: u64,
+    events: u64,
+    logs: &[u8],
+) {
+    let source = source_of(alloc, lines).expect(rt, "memory");
+    let report = report_of(alloc, statements, events, logs).expect(rt, "memory");
+    let files: Files = &[(b"file", source.as_bytes()), (b"plan", PLAN)];
+    expect_answer(rt, alloc, call_over(RUN, files), 0, report.as_bytes());
+}
+
+/// Expects that a main of these body lines is not served.
+fn expect_not_built(rt: &impl Abort, alloc: Global, lines: &[u8]) {
+    let source = source_of(alloc, lines).expect(rt, "memory");
+    let files: Files = &[(b"file", source.as_bytes()), (b"plan", PLAN)];
+    expect_answer(rt, alloc, call_over(RUN, files), 11, b"not built\n");
+}
+
+#[test]
+fn sums_and_variables_are_printed(rt: HostRuntime) {
+    let alloc = rt.alloc();
+    let rows: &[(&[u8], u64, u64, &[u8])] = &[
+        (
+            b"  let v0 = 1 + 2\n  print(v0)\n  print(\"hi\")\n",
+            3,
+            3,
+            b"log 0 3\nlog 0 hi\n",
+        ),
+        (b"  print(0)\n", 1, 2, b"log 0 0\n"),
+        (b"  print(000000007)\n", 1, 2, b"log 0 7\n"),
+        (b"  print(1 + 20 + 300)\n", 1, 2, b"log 0 321\n"),
+        (
+            b"  let v0 = 5\n  let v1 = 7\n  print(v0)\n  print(v1)\n",
+            4,
+            3,
+            b"log 0 5\nlog 0 7\n",
+        ),
+    ];
+    for (lines, statements, events, logs) in rows {
+        expect_run(&rt, alloc, *lines, *statements, *events, *logs);
+    }
+    let sums: &[(u64, &[u8])] = &[
+        (1, b"log 0 999999999\n"),
+        (2, b"log 0 1999999998\n"),
+        (100, b"log 0 99999999900\n"),
+    ];
+    for (terms, logs) in sums {
+        let line = print_of_terms(alloc, *terms).expect(&rt, "memory");
+        expect_run(&rt, alloc, line.as_bytes(), 1, 2, *logs);
+    }
+}
+
+#[test]
+fn other_body_lines_are_not_built(rt: HostRuntime) {
+    let alloc = rt.alloc();
+    let rows: &[&[u8]] = &[
+        b"  print(v0)\n",
+        b"  let v1 = 1\n",
+        b"  let v0 = 1\n  print(v1)\n",
+        b"  let v0 = 1\n  print(v00)\n",
+        b"  let v0 = 1\n  let v1 = v0\n",
+        b"  print(1 +2)\n",
+        b"  print(1234567890)\n",
+        b"  print()\n",
+    ];
+    for lines in rows {
+        expect_not_built(&rt, alloc, *lines);
+    }
+    let line = print_of_terms(alloc, 101).expect(&rt, "memory");
+    expect_not_built(&rt, alloc, line.as_bytes());
+}
+
+#[test]
+fn a_turn_begins_at_most_1000_statements(rt: HostRuntime) {
+    let alloc = rt.alloc();
+    // So many `let` lines before a print and after it, or no print; then the statements and the events.
+    let rows: &[(u64, Option<u64>, u64, u64)] = &[
+        (1000, None, 1000, 1),
+        (1001, None, 1001, 2),
+        (2000, None, 2000, 2),
+        (2001, None, 2001, 3),
+        (999, Some(1000), 2000, 2),
+        (1000, Some(0), 1001, 3),
+    ];
+    for (before, after, statements, events) in rows {
+        let mut lines = Text::from_bytes(alloc, b"").expect(&rt, "memory");
+        push_lets(alloc, &mut lines, 0, *before).expect(&rt, "memory");
+        let mut logs: &[u8] = b"";
+        if let Some(after) = after {
+            lines.push_all(b"  print(\"a\")\n").expect(&rt, "memory");
+            push_lets(alloc, &mut lines, *before, *after).expect(&rt, "memory");
+            logs = b"log 0 a\n";
+        }
+        expect_run(&rt, alloc, lines.as_bytes(), *statements, *events, logs);
+    }
+}
+
 #[test]
 fn a_report_that_is_cut_off_is_a_write_fault(rt: HostRuntime) {
     let alloc = rt.alloc();

@@ -1,6 +1,6 @@
 //! The world of one node and one root task: its job, what it printed, and all that happened.
 
-ghost use Rattle.std.specs.Prelude.{◌≡◌, ◌<◌, ◌≤◌, ◌+◌, ◌^◌, ◌↔◌, [], ◌∷◌, ◌++◌, Some, None, IfOk, OnOk, OnErr, IsErrOf, MatchOption, vec_len, vec_capacity, length};
+ghost use Rattle.std.specs.Prelude.{◌≡◌, ◌<◌, ◌≤◌, ◌+◌, ◌^◌, ◌↔◌, [], ◌∷◌, ◌++◌, Some, None, IfOk, OnOk, IsErrOf, MatchOption, vec_len, vec_capacity, length};
 ghost use Rattle.sw_job.specs.Machine.{frame};
 ghost use Rattle.sw_job.specs.declared.turn.Given.TheVariants.{Nothing};
 ghost use Rattle.swda.specs.History.{turn_entry};
@@ -10,18 +10,19 @@ use crate::history::{Entry, Event, Label, TaskEnd, TaskLine};
 use crate::machine::run_job;
 use std::alloc::{AllocError, Global};
 use std::marker::Model;
+use std::mem;
 use sw_base::{FuncNo, Items, JobNo, NoMemory, NodeNo, Stack, Text, Texts};
-use sw_job::{Ask, Code, Exit, Frame, Frames, Given, TurnEnd, TurnStart, Value};
+use sw_job::{Ask, Code, Exit, Frame, Frames, Given, TrapKind, TurnEnd, TurnStart, Value};
 
 /// How many statements a turn begins at most.
 const SLICE: u64 = 1000;
 
-/// Why an event did not come. The world is as before.
+/// Why an event did not come.
 #[derive(Clone, Copy, Debug, PartialEq, Eq)]
 pub enum StepRefusal {
-    /// The event is not enabled.
+    /// The event is not enabled. The world is as before.
     NotEnabled,
-    /// Memory was wanted.
+    /// Memory was wanted. The job is lost, and the world is only dropped.
     NoMemory,
 }
 
@@ -45,13 +46,26 @@ impl From<NoMemory> for StepRefusal {
     }
 }
 
-/// A world whose history is legal for every program that its code carries.
+/// The job of the root task.
+#[derive(Debug, Drop)]
+pub enum Job {
+    /// Its next turn starts from here.
+    Ready(TurnStart),
+    /// Its func has returned.
+    Ended,
+    /// A trap has ended the run.
+    Trapped(TrapKind),
+    /// Memory was wanted in its turn.
+    Lost,
+}
+
+/// A world whose history is legal for every program that its code carries, unless its job was lost.
 #[derive(Debug, Drop)]
 pub struct World {
     alloc: Global,
     code: Code,
     main: FuncNo,
-    job: Option<TurnStart>,
+    job: Job,
     log: Texts,
     begun: u64,
     history: Vec<Entry>,
@@ -113,12 +127,12 @@ fn line_of(ask: Ask) -> Text
 }
 
 impl World {
-    ghost use Rattle.swda.specs.World.{Run, IsEnabled, IsLegalForAll, Steps, job_ahead, the_task};
+    ghost use Rattle.swda.specs.World.{Run, IsAtEnd, IsEnabled, is_ready, IsLegalForAll, IsLost, Steps, job_ahead, the_task, trap_of};
 
     /// A world in which nothing has happened yet. Its root task is a func of the code.
     pub fn new(alloc: Global, code: Code, main: FuncNo) -> Result<World, NoMemory>
         requires { main.0 < length code }
-        ensures { IfOk result (λ w. w ≡ record { code = code; main = main.0; job = Some (record { frames = frame main.0 0 [] ∷ []; given = Nothing }); log = []; begun = 0; history = [] }) }
+        ensures { IfOk result (λ w. w ≡ record { code = code; main = main.0; job = Job.Ready (record { frames = frame main.0 0 [] ∷ []; given = Nothing }); log = []; begun = 0; history = [] }) }
     {
         let frames = entry_frames(alloc, main)?;
         let Some(func) = code.func(main) else {
@@ -130,7 +144,7 @@ impl World {
             alloc,
             code,
             main,
-            job: Some(TurnStart {
+            job: Job::Ready(TurnStart {
                 frames,
                 given: Given::Nothing,
             }),
@@ -140,12 +154,18 @@ impl World {
         })
     }
 
-    /// One event. `NotEnabled` comes exactly where the event is not enabled, and an error changes nothing.
+    fn is_ready(&self) -> bool
+        ensures { result ≡ is_ready self.now.job }
+    {
+        matches!(self.job, Job::Ready(_))
+    }
+
+    /// One event. `NotEnabled` comes exactly where the event is not enabled.
     pub fn step(&mut self, event: Event) -> Result<(), StepRefusal>
         ensures ok { OnOk result (Steps self.old event self.new) }
         ensures enabled { OnOk result (IsEnabled self.old event) }
         ensures refused { IsErrOf result StepRefusal.NotEnabled → ¬ IsEnabled self.old event }
-        ensures err { OnErr result (self.new ≡ self.old) }
+        ensures unchanged { IsErrOf result StepRefusal.NotEnabled → self.new ≡ self.old }
     {
         match event {
             Event::Turn(job) => self.turn(job),
@@ -156,13 +176,13 @@ impl World {
         ensures ok { OnOk result (Steps self.old (Turn job) self.new) }
         ensures enabled { OnOk result (IsEnabled self.old (Turn job)) }
         ensures refused { IsErrOf result StepRefusal.NotEnabled → ¬ IsEnabled self.old (Turn job) }
-        ensures err { OnErr result (self.new ≡ self.old) }
+        ensures unchanged { IsErrOf result StepRefusal.NotEnabled → self.new ≡ self.old }
     {
-        if job.0 != 0 {
+        if job.0 != 0 || !self.is_ready() {
             return Err(StepRefusal::NotEnabled);
         }
-        let Some(start) = &self.job else {
-            return Err(StepRefusal::NotEnabled);
+        let Job::Ready(start) = mem::replace(&mut self.job, Job::Lost) else {
+            unreachable!()
         };
         let TurnEnd {
             exit,
@@ -176,7 +196,7 @@ impl World {
                 self.log.push(line_of(ask))?;
                 push_reserved(&mut self.history, entry);
                 self.begun += begun;
-                self.job = Some(TurnStart {
+                self.job = Job::Ready(TurnStart {
                     frames,
                     given: Given::Value(Value::Void),
                 });
@@ -185,13 +205,19 @@ impl World {
             Exit::Return(_) => {
                 push_reserved(&mut self.history, entry);
                 self.begun += begun;
-                self.job = None;
+                self.job = Job::Ended;
+                Ok(())
+            }
+            Exit::Trap(kind) => {
+                push_reserved(&mut self.history, entry);
+                self.begun += begun;
+                self.job = Job::Trapped(kind);
                 Ok(())
             }
             Exit::Slice => {
                 push_reserved(&mut self.history, entry);
                 self.begun += begun;
-                self.job = Some(TurnStart {
+                self.job = Job::Ready(TurnStart {
                     frames,
                     given: Given::Nothing,
                 });
@@ -200,21 +226,23 @@ impl World {
         }
     }
 
-    /// The driver's next event: the turn of the one job, while it has not ended.
+    /// The driver's next event: the turn of the one job, while it is ready.
     pub fn next_event(&self) -> Option<Event>
-        ensures { MatchOption result (self.now.job ≡ None) (λ event. IsEnabled self.now event) }
+        ensures { MatchOption result (IsAtEnd self.now.job) (λ event. IsEnabled self.now event) }
     {
         match &self.job {
-            Some(_) => Some(Event::Turn(JobNo(0))),
-            None => None,
+            Job::Ready(_) => Some(Event::Turn(JobNo(0))),
+            Job::Ended | Job::Trapped(_) | Job::Lost => None,
         }
     }
 
     /// Does the driver's events, one after the other, up to where none is next.
     pub fn drive(&mut self) -> Result<(), NoMemory>
+        requires { ¬ IsLost self.old.job }
         ensures code { OnOk result (self.new.code ≡ self.old.code) }
         ensures main { OnOk result (self.new.main ≡ self.old.main) }
-        ensures ends { OnOk result (self.new.job ≡ None) }
+        ensures there { OnOk result (¬ IsLost self.new.job) }
+        ensures ends { OnOk result (IsAtEnd self.new.job) }
     {
         while let Some(event) = self.next_event() {
             match self.step(event) {
@@ -224,6 +252,16 @@ impl World {
             }
         }
         Ok(())
+    }
+
+    /// The trap that has ended the run; none where none has.
+    pub fn trap(&self) -> Option<TrapKind>
+        ensures { result ≡ trap_of self.now.job }
+    {
+        match &self.job {
+            Job::Trapped(kind) => Some(*kind),
+            Job::Ready(_) | Job::Ended | Job::Lost => None,
+        }
     }
 
     /// The statements begun.
@@ -249,17 +287,17 @@ impl World {
             node: NodeNo(0),
             epoch: 0,
             end: match &self.job {
-                Some(_) => TaskEnd::Unfinished,
-                None => TaskEnd::Returned,
+                Job::Ended => TaskEnd::Returned,
+                Job::Ready(_) | Job::Trapped(_) | Job::Lost => TaskEnd::Unfinished,
             },
         }
     }
 
     /// The events with their labels, the first one first. They are a legal history of every program that
-    /// the code carries.
+    /// the code carries, where the job is not lost.
     pub fn history(&self) -> &[Entry]
         ensures value { result.now ≡ self.now.history }
-        ensures legal { IsLegalForAll self.now }
+        ensures legal { ¬ IsLost self.now.job → IsLegalForAll self.now }
     {
         self.history.as_slice()
     }

@@ -1,11 +1,13 @@
-use Rattle.std.proofs.Common.{◌≡◌, take, []}
-use Rattle.std.specs.List.{flat_map}
-use Rattle.swda.specs.Codes.{stmt_code, stmt_shapes}
+use Rattle.std.proofs.Common.{◌≡◌, ◌++◌, [], drop}
+use Rattle.sw_tree.specs.Trees.{body_of}
+use Rattle.swda.specs.Codes.{body_code, body_shapes, declared_types}
+use Rattle.swda.specs.Drafts.{scope_of}
 use Rattle.swda.proofs.lowering.lower_func.Given as goal
 
--- the statements so far are lowered
+-- the code so far and that of the statements that are left are the code of the body
 abbrev pub invariant-loop-stmt : goal.invariant-loop-stmt
 invariant-loop-stmt l = record {
-  instrs : l.draft.instrs ≡ flat_map stmt_code (take l.stmt-index l.body);
-  shapes : l.draft.shapes ≡ flat_map (stmt_shapes []) (take l.stmt-index l.body);
+  variables : l.draft.variables ++ declared_types l.vars (body_of (drop l.stmt-index l.body)) ≡ declared_types [] (body_of l.body);
+  instrs : l.draft.instrs ++ body_code (scope_of [] l.vars) (body_of (drop l.stmt-index l.body)) ≡ body_code [] (body_of l.body);
+  shapes : l.draft.shapes ++ body_shapes l.vars (body_of (drop l.stmt-index l.body)) ≡ body_shapes [] (body_of l.body);
 }

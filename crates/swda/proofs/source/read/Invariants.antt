@@ -1,13 +1,10 @@
-use Rattle.std.proofs.Common.{◌≡◌, ◌++◌, length}
-use Rattle.std.specs.List.{AllByRecursion, flat_map}
-use Rattle.swda.specs.Source.{line_of, IsThinStmt}
+use Rattle.std.proofs.Common.{length}
+use Rattle.sw_tree.specs.Trees.{body_of}
+use Rattle.swda.proofs.SourceLemmas.{Read}
 use Rattle.swda.proofs.source.read.Given as goal
 
-abbrev pub invariant-loop-text : goal.invariant-loop-text
-invariant-loop-text l = record {
-  ahead : flat_map line_of l.stmts ++ l.rest ≡ l.initial.rest;
-  each : AllByRecursion IsThinStmt l.stmts;
-}
+abbrev pub invariant-loop-stmts : goal.invariant-loop-stmts
+invariant-loop-stmts l = Read l.initial.rest l.rest l.lets (body_of l.stmts)
 
-abbrev pub decreases-loop-text : goal.decreases-loop-text
-decreases-loop-text l = length l.rest
+abbrev pub decreases-loop-stmts : goal.decreases-loop-stmts
+decreases-loop-stmts l = length l.rest
