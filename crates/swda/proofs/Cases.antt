@@ -1,7 +1,7 @@
 -- The code follows the tree: a case for each thing to do, and the whole step.
 use Rattle.std.proofs.Common.{◌≡◌, ℕ, ℤ, ◌+◌, List, [], ◌∷◌, ◌++◌, length, Some, None, refl, sym, ap, ◌∙◌, subst, arith, append_assoc, length-append, drop, Bool, true, false}
 use Rattle.std.specs.Prelude.{slice_get, nat_lt, if◌then◌else◌}
-use Rattle.sw_tree.specs.Tree.{Expr, Stmt, Func, Let as LetStmt, Print as PrintStmt, Int as IntExpr, Str as StrExpr, Var as VarExpr, Add as AddExpr}
+use Rattle.swda.specs.ThinTree.{Expr, Stmt, Func, Let as LetStmt, Print as PrintStmt, Int as IntExpr, Str as StrExpr, Var as VarExpr, Add as AddExpr}
 use Rattle.sw_job.specs.declared.value.Value.{Value}
 use Rattle.sw_job.specs.declared.value.Value.TheVariants.{Int, Str, Void}
 use Rattle.sw_job.specs.declared.instr.Instr.{Instr}

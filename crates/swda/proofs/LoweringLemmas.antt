@@ -6,11 +6,11 @@ use Rattle.std.specs.Option.{option_map}
 use Rattle.sw_job.specs.declared.value.Ty.{Ty}
 use Rattle.std.proofs.Common.{get_or, drop-cons}
 use Rattle.std.proofs.lemmas.List.{append_assoc}
-use Rattle.sw_tree.specs.Tree as t
-use Rattle.sw_tree.specs.Tree.{Let as LetStmt, Print as PrintStmt}
-use Rattle.sw_tree.specs.Trees.{stmt_of, body_of, func_of}
-use Rattle.sw_tree.specs.declared.Stmt.{Stmt}
-use Rattle.sw_tree.specs.declared.Func.{Func}
+use Rattle.swda.specs.ThinTree as t
+use Rattle.swda.specs.ThinTree.{Let as LetStmt, Print as PrintStmt}
+use Rattle.swda.specs.ThinTrees.{stmt_of, body_of, func_of}
+use Rattle.swda.specs.declared.thin.Stmt.{Stmt}
+use Rattle.swda.specs.declared.thin.Func.{Func}
 use Rattle.sw_job.specs.declared.value.Ty.TheVariants.{Void as VoidTy}
 use Rattle.sw_job.specs.declared.instr.Instr.{Instr}
 use Rattle.sw_job.specs.declared.code.Shape.{Shape}

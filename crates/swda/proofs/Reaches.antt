@@ -2,7 +2,7 @@
 use Rattle.std.proofs.Common.{◌≡◌, ℕ, zero, suc, ◌+◌, ◌≤◌, max, List, [], ◌∷◌, Option, Some, None, refl, sym, ap, ◌∙◌, subst, arith, Bool, true, false}
 use Rattle.std.specs.Prelude.{nat_lt, if◌then◌else◌}
 use Rattle.std.proofs.lemmas.Bool.{ltb-true, ltb-false, lt-ltb}
-use Rattle.sw_tree.specs.Tree.{Int as IntExpr, Str as StrExpr, Var as VarExpr, Add as AddExpr}
+use Rattle.swda.specs.ThinTree.{Int as IntExpr, Str as StrExpr, Var as VarExpr, Add as AddExpr}
 use Rattle.sw_job.specs.declared.value.Value.{Value}
 use Rattle.sw_job.specs.declared.value.Value.TheVariants.{Void}
 use Rattle.sw_job.specs.declared.turn.Frame.{Frame}

@@ -1,7 +1,7 @@
 -- What a run reports, from what its steps say.
 use Rattle.std.proofs.Common.{◌≡◌, ℕ, ◌<◌, List, [], ◌∷◌, length, Some, None, sym, ap, ◌∙◌, subst, arith}
 use Rattle.std.specs.Prelude.{slice_get}
-use Rattle.sw_tree.specs.Tree.{Stmt, Func}
+use Rattle.swda.specs.ThinTree.{Stmt, Func}
 use Rattle.sw_job.specs.declared.code.FuncCode.{FuncCode}
 use Rattle.swda.specs.declared.world.Job.TheVariants.{Ended}
 use Rattle.swda.specs.Carries.{Carries}

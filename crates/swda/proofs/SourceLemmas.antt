@@ -9,10 +9,10 @@ use Rattle.std.proofs.lemmas.Bool.{false≢true}
 use Rattle.std.proofs.lemmas.Fmt.{digits_decimal}
 use Rattle.std.proofs.lemmas.List.{append_cancel_left, append_cancel_right, length_push, flat_map_more, map_push}
 use Rattle.std.proofs.lemmas.Slice.Eq.{bytes_eq-Decides}
-use Rattle.sw_tree.specs.Trees.{expr_of, stmt_of, body_of}
-use Rattle.sw_tree.specs.declared.Expr as d
-use Rattle.sw_tree.specs.declared.Stmt as c
-use Rattle.sw_tree.specs.Tree.{Expr, Int, Str, Var, Add, Stmt, Let, Print}
+use Rattle.swda.specs.ThinTrees.{expr_of, stmt_of, body_of}
+use Rattle.swda.specs.declared.thin.Expr as d
+use Rattle.swda.specs.declared.thin.Stmt as c
+use Rattle.swda.specs.ThinTree.{Expr, Int, Str, Var, Add, Stmt, Let, Print}
 use Rattle.sw_job.specs.declared.value.Ty.{Ty}
 use Rattle.sw_job.specs.declared.value.Ty.TheVariants.{Int as IntTy}
 use Rattle.sw_job.specs.Typed.{IsPrintable}

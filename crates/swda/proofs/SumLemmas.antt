@@ -6,13 +6,13 @@ use Rattle.std.specs.List.{AllByRecursion, flat_map}
 use Rattle.std.proofs.lemmas.Bool.{false≢true}
 use Rattle.std.proofs.lemmas.List.{flat_map_more, length_push, at_drop_more, nil_from_length}
 use Rattle.std.proofs.lemmas.Str.Parse.{IsNumeralModel, numerals_by_fold, digits_value_short}
-use Rattle.sw_tree.specs.Trees.{expr_of}
-use Rattle.sw_tree.specs.Trees.{expr_level}
-use Rattle.sw_tree.specs.declared.Expr as d
-use Rattle.sw_tree.specs.declared.Expr.TheFolds.{fold-roll-Expr}
-use Rattle.sw_tree.specs.declared.Expr.TheOpen.{Expr-F}
-use Rattle.sw_tree.specs.declared.Expr.TheVariants.{rolls-Int, rolls-Add}
-use Rattle.sw_tree.specs.Tree.{Expr, Int, Str, Var, Add}
+use Rattle.swda.specs.ThinTrees.{expr_of}
+use Rattle.swda.specs.ThinTrees.{expr_level}
+use Rattle.swda.specs.declared.thin.Expr as d
+use Rattle.swda.specs.declared.thin.Expr.TheFolds.{fold-roll-Expr}
+use Rattle.swda.specs.declared.thin.Expr.TheOpen.{Expr-F}
+use Rattle.swda.specs.declared.thin.Expr.TheVariants.{rolls-Int, rolls-Add}
+use Rattle.swda.specs.ThinTree.{Expr, Int, Str, Var, Add}
 use Rattle.swda.specs.Source.{IsDigits, number_from, IsNumber, IsSum, terms, IsThinSum}
 use Rattle.swda.specs.Lines.{AllAre, Stops}
 

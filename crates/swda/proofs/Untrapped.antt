@@ -4,7 +4,7 @@ use Rattle.std.proofs.Math.Nat.{pow-succ', pow-le-pow_right}
 use Rattle.std.specs.Prelude.{nat_lt, if◌then◌else◌, slice_get, slice_set}
 use Rattle.std.specs.Char.{is_ascii_digit}
 use Rattle.std.specs.List.{AllByRecursion}
-use Rattle.sw_tree.specs.Tree.{Expr, Stmt, Let as LetStmt, Print as PrintStmt, Int as IntExpr, Str as StrExpr, Var as VarExpr, Add as AddExpr}
+use Rattle.swda.specs.ThinTree.{Expr, Stmt, Let as LetStmt, Print as PrintStmt, Int as IntExpr, Str as StrExpr, Var as VarExpr, Add as AddExpr}
 use Rattle.sw_job.specs.declared.value.Value.{Value}
 use Rattle.sw_job.specs.declared.value.Value.TheVariants.{Int, Str, Void}
 use Rattle.sw_job.specs.declared.turn.Ask.TheVariants.{Print as AskPrint}

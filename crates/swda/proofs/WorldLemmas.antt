@@ -2,7 +2,7 @@
 use Rattle.std.proofs.Common.{◌≡◌, ℕ, ◌+◌, ◌<◌, ◌≤◌, ◌^◌, max, List, [], ◌∷◌, ◌++◌, Option, Some, None, refl, sym, ap, ◌∙◌, subst, arith, length}
 use Rattle.std.specs.Prelude.{slice_get}
 use Rattle.sw_base.specs.declared.ids.JobNo.{JobNo}
-use Rattle.sw_tree.specs.Tree.{Func}
+use Rattle.swda.specs.ThinTree.{Func}
 use Rattle.sw_job.specs.declared.value.Value.TheVariants.{Void}
 use Rattle.sw_job.specs.declared.turn.Frame.{Frame}
 use Rattle.sw_job.specs.declared.turn.Ask.TheVariants.{Print as AskPrint}
@@ -23,23 +23,9 @@ use Rattle.swda.specs.State.{Activation, MeaningState, after_exit, Replays}
 use Rattle.swda.specs.History.{slice_limit, start, turn_entry, KeptTurn, Row, IsKept, IsDriven, labels_of}
 use Rattle.swda.specs.declared.world.Job.{Job}
 use Rattle.swda.specs.declared.world.Job.TheVariants.{Ready, Ended, Trapped, Lost}
-use Rattle.swda.specs.World.{Run, state_of, IsAlike, IsOfJob, IsLegal, IsTypedJob, job_ahead, IsLost, Sound, IsSound, IsAtEnd, trap_of}
+use Rattle.swda.specs.World.{Run, state_of, IsAlike, IsOfJob, IsLegal, IsTypedJob, job_ahead, IsLost, Sound, IsSound, IsAtEnd, trap_of, next_job, line_of, with_line, Steps}
 use Rattle.swda.proofs.Reaches.{alike_all, turn_counted}
 use Rattle.swda.proofs.HistoryLemmas.{kept_more, kept_driven, kept_replays}
-
--- the job after an exit
-abbrev pub next_job : Exit → List Frame → Job
-next_job (Ask (AskPrint text)) frames = Ready (record { frames = frames; given = GivenValue Void })
-next_job (Return v) frames = Ended
-next_job (Trap kind) frames = Trapped kind
-next_job Slice frames = Ready (record { frames = frames; given = Nothing })
-
--- the lines printed, after an exit
-abbrev pub next_log : Exit → List (List ℕ) → List (List ℕ)
-next_log (Ask (AskPrint text)) log = log ++ text ∷ []
-next_log (Return v) log = log
-next_log (Trap kind) log = log
-next_log Slice log = log
 
 -- the world after a turn
 abbrev pub after_turn : Run → JobNo → Exit → List Frame → ℕ → Run
@@ -47,7 +33,7 @@ after_turn r j exit frames begun = record {
   code = r.code;
   main = r.main;
   job = next_job exit frames;
-  log = next_log exit r.log;
+  log = with_line r.log (line_of exit);
   begun = r.begun + begun;
   history = r.history ++ turn_entry j begun ∷ [];
 }
@@ -82,7 +68,7 @@ next_of_job code (Return v) frames old left a = refl
 next_of_job code (Trap kind) frames old left a = tt
 next_of_job code Slice frames old left a = record { left = left; same = refl; alike = a }
 
-pub next_there : (exit : Exit) (frames : List Frame) → ¬ IsLost (next_job exit frames)
+next_there : (exit : Exit) (frames : List Frame) → ¬ IsLost (next_job exit frames)
 next_there (Ask (AskPrint text)) frames lost = lost
 next_there (Return v) frames lost = lost
 next_there (Trap kind) frames lost = lost
@@ -96,7 +82,7 @@ ahead_next code s (Trap kind) frames begun r = let m = r.spent in omega arith
 ahead_next code s Slice frames begun r = let m = r.spent in omega arith
 
 -- the states before and after agree
-after_state : (s : TurnStart) (log : List (List ℕ)) (n begun : ℕ) (left left' : List TreeFrame) (exit : Exit) (frames : List Frame) → state_of (next_job exit frames) (next_log exit log) (n + begun) (next_activation exit (of_start s left) left') ≡ after_exit (state_of (Ready s) log n (Some (of_start s left))) 0 (of_start s left) exit left' begun
+after_state : (s : TurnStart) (log : List (List ℕ)) (n begun : ℕ) (left left' : List TreeFrame) (exit : Exit) (frames : List Frame) → state_of (next_job exit frames) (with_line log (line_of exit)) (n + begun) (next_activation exit (of_start s left) left') ≡ after_exit (state_of (Ready s) log n (Some (of_start s left))) 0 (of_start s left) exit left' begun
 after_state s log n begun left left' (Ask (AskPrint text)) frames = refl
 after_state s log n begun left left' (Return v) frames = refl
 after_state s log n begun left left' (Trap kind) frames = refl
@@ -109,7 +95,7 @@ legal_turn main r s j exit frames begun here typed turn ran legal =
     let counted = turn_counted slice_limit s.given of_job.left (omega arith) both.1 in
     let old = of_start s of_job.left in
     let before = state_of (Ready s) r.log r.begun (Some old) in
-    let after = state_of (next_job exit frames) (next_log exit r.log) (r.begun + begun) (next_activation exit old both.0) in
+    let after = state_of (next_job exit frames) (with_line r.log (line_of exit)) (r.begun + begun) (next_activation exit old both.0) in
     let kept_turn : KeptTurn before 0 (max 1 begun) after = record {
       turn = record {
         untrapped = refl;
@@ -199,8 +185,26 @@ ended_untrapped (Trapped kind) end there none = absurd (cc)
 ended_untrapped Lost end there none = absurd (there tt)
 
 -- a world after a turn of the machine, as its fields are left
-pub sound_after : (r : Run) (s : TurnStart) (j : JobNo) (end : TurnEnd) (exit : Exit) (log : List (List ℕ)) (added : Entry) (reserved history : List Entry) → IsSound r → r.job ≡ Ready s → j.0 ≡ 0 → Ran r.code s end.exit end.frames end.begun → end.exit ≡ exit → log ≡ next_log exit r.log → added ≡ turn_entry j end.begun → reserved ≡ r.history → history ≡ reserved ++ added ∷ [] → IsSound (record { code = r.code; main = r.main; job = next_job exit end.frames; log = log; begun = r.begun + end.begun; history = history })
-sound_after r s j end exit log added reserved history sound here turn ran is_exit is_log is_added is_reserved is_history =
-    sound_as (after_turn r j exit end.frames end.begun) (next_job exit end.frames) log (r.begun + end.begun) history refl is_log refl
+pub sound_after : (r : Run) (s : TurnStart) (j : JobNo) (end : TurnEnd) (job : Job) (line : Option (List ℕ)) (log : List (List ℕ)) (added : Entry) (reserved history : List Entry) → IsSound r → r.job ≡ Ready s → j.0 ≡ 0 → Ran r.code s end.exit end.frames end.begun → job ≡ next_job end.exit end.frames → line ≡ line_of end.exit → log ≡ with_line r.log line → added ≡ turn_entry j end.begun → reserved ≡ r.history → history ≡ reserved ++ added ∷ [] → IsSound (record { code = r.code; main = r.main; job = job; log = log; begun = r.begun + end.begun; history = history })
+sound_after r s j end job line log added reserved history sound here turn ran is_job is_line is_log is_added is_reserved is_history =
+    sound_as (after_turn r j end.exit end.frames end.begun) job log (r.begun + end.begun) history is_job (is_log ∙ ap (with_line r.log) is_line) refl
     (is_history ∙ ap (λ l. l ++ added ∷ []) is_reserved ∙ ap (λ e. r.history ++ e ∷ []) is_added)
-    (subst (λ x. IsSound (after_turn r j x end.frames end.begun)) is_exit (sound_turn r s j end.exit end.frames end.begun sound here turn ran))
+    (sound_turn r s j end.exit end.frames end.begun sound here turn ran)
+
+ahead_less : (code : List FuncCode) (s : TurnStart) (exit : Exit) (frames : List Frame) → all_ahead code frames < all_ahead code s.frames → job_ahead code (next_job exit frames) < job_ahead code (Ready s)
+ahead_less code s (Ask (AskPrint text)) frames m = omega arith
+ahead_less code s (Return v) frames m = omega arith
+ahead_less code s (Trap kind) frames m = omega arith
+ahead_less code s Slice frames m = omega arith
+
+-- such a turn is one step of the world
+pub steps_after : (old r : Run) (s : TurnStart) (j : JobNo) (end : TurnEnd) (job : Job) (log : List (List ℕ)) (begun : ℕ) (added : Entry) (reserved history : List Entry) → r ≡ old → r.job ≡ Ready s → Ran r.code s end.exit end.frames end.begun → job ≡ next_job end.exit end.frames → added ≡ turn_entry j end.begun → reserved ≡ r.history → history ≡ reserved ++ added ∷ [] → Steps old (Turn j) (record { code = r.code; main = r.main; job = job; log = log; begun = begun; history = history })
+steps_after old r s j end job log begun added reserved history is_old here ran is_job is_added is_reserved is_history =
+    subst (λ o. Steps o (Turn j) (record { code = r.code; main = r.main; job = job; log = log; begun = begun; history = history })) is_old (record {
+      code = refl;
+      main = refl;
+      labels = Go j (max 1 end.begun) ∷ [];
+      history = is_history ∙ ap (λ l. l ++ added ∷ []) is_reserved ∙ ap (λ e. r.history ++ e ∷ []) is_added;
+      there = subst (λ o. ¬ IsLost o) (sym is_job) (next_there end.exit end.frames);
+      nearer = subst (λ o. job_ahead r.code o < job_ahead r.code r.job) (sym is_job) (subst (λ o. job_ahead r.code (next_job end.exit end.frames) < job_ahead r.code o) (sym here) (ahead_less r.code s end.exit end.frames ran.nearer));
+    })

@@ -1,7 +1,7 @@
 -- What a call of the program comes to, and when: one relation by cases on its status.
 use Rattle.std.specs.Prelude.{◌≡◌, ◌≢◌, ◌⊎◌, ℕ, List, [], ◌∷◌, ◌++◌, length, take, Option, IfSome, codes}
 use Rattle.std.specs.Option.{option_map}
-use Rattle.sw_tree.specs.Tree.{Stmt, Func}
+use Rattle.swda.specs.ThinTree.{Stmt, Func}
 use Rattle.sw_outside.specs.Causes.{Rose}
 use Rattle.swda.specs.declared.history.Entry.{Entry}
 use Rattle.swda.specs.State.{MeaningState, Replays}

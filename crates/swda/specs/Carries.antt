@@ -1,7 +1,7 @@
 -- When code carries a program: from each typed start it does, turn by turn, what the tree does.
 use Rattle.std.specs.Prelude.{◌≡◌, ℕ, zero, suc, ◌≤◌, List, [], ◌∷◌, Some, slice_get}
 use Rattle.std.specs.Option.{option_map}
-use Rattle.sw_tree.specs.Tree.{Func}
+use Rattle.swda.specs.ThinTree.{Func}
 use Rattle.sw_job.specs.declared.value.Ty.TheVariants.{Void as VoidTy}
 use Rattle.sw_job.specs.declared.turn.Frame.{Frame}
 use Rattle.sw_job.specs.declared.turn.Exit.{Exit}

@@ -1,7 +1,7 @@
 -- The code of a func: its instructions, what the operands are before each of them, and when the func is typed.
 use Rattle.std.specs.Prelude.{◌≡◌, ℕ, ◌+◌, nat_eq, List, [], ◌∷◌, ◌++◌, length, Option, Some, None, unwrap_or, if◌then◌else◌}
 use Rattle.std.specs.Cmp.Lexicographic.{pointwise}
-use Rattle.sw_tree.specs.Tree.{Expr, Stmt, Func, Let as LetStmt, Print as PrintStmt, Int as IntExpr, Str as StrExpr, Var as VarExpr, Add as AddExpr}
+use Rattle.swda.specs.ThinTree.{Expr, Stmt, Func, Let as LetStmt, Print as PrintStmt, Int as IntExpr, Str as StrExpr, Var as VarExpr, Add as AddExpr}
 use Rattle.sw_job.specs.declared.value.Ty.{Ty}
 use Rattle.sw_job.specs.declared.value.Ty.TheVariants.{Int as IntTy, Str as StrTy, Void as VoidTy}
 use Rattle.sw_job.specs.declared.instr.Instr.{Instr}

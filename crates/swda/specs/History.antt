@@ -5,7 +5,7 @@ use Rattle.std.specs.List.{flat_map}
 use Rattle.sw_base.specs.declared.ids.JobNo.{JobNo}
 use Rattle.sw_job.specs.declared.turn.Exit.TheVariants.{Slice}
 use Rattle.sw_job.specs.declared.turn.Given.TheVariants.{Nothing}
-use Rattle.sw_tree.specs.Tree.{Func}
+use Rattle.swda.specs.ThinTree.{Func}
 use Rattle.swda.specs.declared.history.Event.{Event}
 use Rattle.swda.specs.declared.history.Event.TheVariants.{Turn}
 use Rattle.swda.specs.declared.history.Label.{Label}

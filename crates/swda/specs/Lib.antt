@@ -1,3 +1,6 @@
+-- The words of this crate's contracts.
+pub mod ThinTree
+pub mod ThinTrees
 pub mod Meaning
 pub mod Codes
 pub mod Drafts

@@ -1,7 +1,7 @@
 -- What the parts of the reader of thin sources answer.
 use Rattle.std.specs.Prelude.{◌≡◌, ◌≢◌, ℕ, ◌<◌, ◌≤◌, List, [], ◌∷◌, ◌++◌, length, Bool, true, false, not, ◌==◌}
 use Rattle.std.specs.List.{AllByRecursion}
-use Rattle.sw_tree.specs.Tree.{Expr, Str, Var, Stmt}
+use Rattle.swda.specs.ThinTree.{Expr, Str, Var, Stmt}
 use Rattle.swda.specs.Source.{IsPlain, IsThinSum, IsLine, name_of, quoted, lets_after}
 
 abbrev pub AllAre : (ℕ → Bool) → List ℕ → Type 0

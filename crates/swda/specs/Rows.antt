@@ -1,6 +1,6 @@
 -- The rows of the top call's answers, one for each status, and what may come where a row's condition holds.
 use Rattle.std.specs.Prelude.{◌≡◌, ◌≢◌, ◌⊎◌, ℕ, List, [], ◌∷◌, ◌++◌, Option, IfSome}
-use Rattle.sw_tree.specs.Tree.{Stmt}
+use Rattle.swda.specs.ThinTree.{Stmt}
 use Rattle.swda.specs.Source.{main_func, Spells, IsNotThin}
 use Rattle.swda.specs.declared.status.Status.{Status}
 use Rattle.swda.specs.declared.status.Status.TheVariants.{Done, Usage, WriteFault, WantOfMemory, NotBuilt}

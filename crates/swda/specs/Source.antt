@@ -4,7 +4,7 @@ use Rattle.std.specs.Prelude.{◌≡◌, ℕ, pos, ◌+◌, ◌<◌, ◌≤◌, 
 use Rattle.std.specs.Char.{is_ascii_digit}
 use Rattle.std.specs.List.{AllByRecursion, flat_map}
 use Rattle.std.specs.Fmt.{decimal}
-use Rattle.sw_tree.specs.Tree.{Expr, Int, Str, Var, Add, Stmt, Let, Print, Func}
+use Rattle.swda.specs.ThinTree.{Expr, Int, Str, Var, Add, Stmt, Let, Print, Func}
 
 -- a character that stands for itself in a string: from space to ~, without " and \
 abbrev pub is_plain : ℕ → Bool

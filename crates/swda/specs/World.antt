@@ -1,7 +1,13 @@
 -- What a world of one root task shows, and when its history is legal.
 use Rattle.std.specs.Prelude.{◌≡◌, ℕ, ◌+◌, ◌<◌, ◌≤◌, ◌^◌, suc, List, [], ◌∷◌, ◌++◌, Option, Some, None, Bool, true, false, slice_get}
-use Rattle.sw_tree.specs.Tree.{Func}
+use Rattle.swda.specs.ThinTree.{Func}
 use Rattle.sw_job.specs.declared.value.TrapKind.{TrapKind}
+use Rattle.sw_job.specs.declared.value.Value.TheVariants.{Void}
+use Rattle.sw_job.specs.declared.turn.Ask.TheVariants.{Print as AskPrint}
+use Rattle.sw_job.specs.declared.turn.Exit.{Exit}
+use Rattle.sw_job.specs.declared.turn.Exit.TheVariants.{Ask, Return, Trap, Slice}
+use Rattle.sw_job.specs.declared.turn.Frame.{Frame}
+use Rattle.sw_job.specs.declared.turn.Given.TheVariants.{Nothing, Value as GivenValue}
 use Rattle.sw_job.specs.declared.turn.TurnStart.{TurnStart}
 use Rattle.sw_job.specs.declared.code.FuncCode.{FuncCode}
 use Rattle.sw_job.specs.Typed.{TypedStart, all_ahead}
@@ -129,3 +135,22 @@ pub record Steps (old : Run) (event : Event) (new : Run) : Type 0 where
   pub history : new.history ≡ old.history ++ record { event = event; labels = labels } ∷ []
   pub there : ¬ IsLost new.job
   pub nearer : job_ahead new.code new.job < job_ahead old.code old.job
+
+-- what a turn leaves of the job, by its exit and the frames that are left
+abbrev pub next_job : Exit → List Frame → Job
+next_job (Ask (AskPrint text)) frames = Ready (record { frames = frames; given = GivenValue Void })
+next_job (Return v) frames = Ended
+next_job (Trap kind) frames = Trapped kind
+next_job Slice frames = Ready (record { frames = frames; given = Nothing })
+
+-- the line that a turn prints, by its exit
+abbrev pub line_of : Exit → Option (List ℕ)
+line_of (Ask (AskPrint text)) = Some text
+line_of (Return v) = None
+line_of (Trap kind) = None
+line_of Slice = None
+
+-- the lines printed, with one more, if there is one
+abbrev pub with_line : List (List ℕ) → Option (List ℕ) → List (List ℕ)
+with_line log None = log
+with_line log (Some line) = log ++ line ∷ []

@@ -2,17 +2,17 @@
 
 ghost use Rattle.std.specs.Prelude.{◌≡◌, ◌++◌, ◌∷◌, [], length, IfOk, OnOk};
 ghost use Rattle.std.specs.List.{AllByRecursion};
-ghost use Rattle.sw_tree.specs.Trees.{expr_of, func_of, funcs_of, stmt_of};
+ghost use Rattle.swda.specs.ThinTrees.{expr_of, func_of, funcs_of, stmt_of};
 ghost use Rattle.swda.specs.Codes.{declares, depth_of, expr_code, expr_in, expr_shapes, func_code, print_shapes, stmt_code, stmt_shapes, type_of, var_type, vars_after, IsTypedBody};
 ghost use Rattle.sw_job.specs.declared.instr.Instr.TheVariants.{Discard, Print, Take};
 ghost use Rattle.swda.specs.Carries.{Carries};
 ghost use Rattle.swda.specs.Drafts.{is_named_at, scope_of};
 
+use crate::thin::{Expr, Func, Stmt, Tree};
 use std::alloc::Global;
 use std::marker::Model;
 use sw_base::{Duplicate, Items, NoMemory, Stack, Text};
 use sw_job::{Code, FuncCode, Instr, Shape, Ty};
-use sw_tree::{Expr, Func, Stmt, Tree};
 
 /// The variables in sight with their types, the newest first.
 #[derive(Debug, Drop)]

@@ -9,6 +9,7 @@ mod reports;
 mod run;
 mod source;
 mod status;
+mod thin;
 mod top;
 mod world;
 

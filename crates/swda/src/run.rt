@@ -1,7 +1,7 @@
 //! One run: from the body of a main to the report of its world.
 
 ghost use Rattle.std.specs.Prelude.{◌≡◌, ◌∷◌, [], None, IfOk, length};
-ghost use Rattle.sw_tree.specs.Trees.{body_of, funcs_of};
+ghost use Rattle.swda.specs.ThinTrees.{body_of, funcs_of};
 ghost use Rattle.swda.specs.Source.{IsThin, main_func};
 ghost use Rattle.swda.specs.Report.{report_text};
 ghost use Rattle.swda.specs.World.{state_of};
@@ -9,10 +9,10 @@ ghost use Rattle.swda.specs.Answers.{Reports};
 
 use crate::lowering::lower;
 use crate::reports::{push_counts, push_log, push_node_line, push_task_line};
+use crate::thin::{Func, Stmt, Tree};
 use crate::world::World;
 use std::alloc::Global;
 use sw_base::{FuncNo, Items, NoMemory, Text};
-use sw_tree::{Func, Stmt, Tree};
 
 /// The number of the func of the root task.
 const MAIN: FuncNo = FuncNo(0);

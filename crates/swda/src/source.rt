@@ -2,15 +2,15 @@
 
 ghost use Rattle.std.specs.Prelude.{◌≡◌, ◌≢◌, ◌↔◌, ℕ, ◌<◌, ◌≤◌, List, [], ◌∷◌, ◌++◌, length, true, false, IfOk, MatchOption, IsTrue};
 ghost use Rattle.std.specs.Char.{is_ascii_digit};
-ghost use Rattle.sw_tree.specs.Tree as t;
-ghost use Rattle.sw_tree.specs.Trees.{expr_of, stmt_of, body_of};
+ghost use Rattle.swda.specs.ThinTree as t;
+ghost use Rattle.swda.specs.ThinTrees.{expr_of, stmt_of, body_of};
 ghost use Rattle.swda.specs.Source.{is_plain, IsPlain, IsDigits, number_from, IsNumber, IsThinSum, IsLine, IsNotThin, Spells, name_of, print_line, quoted, let_line, lets_after};
 ghost use Rattle.swda.specs.Lines.{AllAre, Stops, is_inner, IsName, IsPrinted, BeginsNone, BeginsWith};
 
+use crate::thin::{Expr, Stmt};
 use sqlite_items::Boxed;
 use std::alloc::Global;
 use sw_base::{Items, NoMemory, Text};
-use sw_tree::{Expr, Stmt};
 
 const FIRST_LINE: &[u8] = b"func main(system: NodeSystem) async throws {\n";
 

@@ -1,7 +1,7 @@
 //! The top call: from the words of a call to its status, over a loader and a sink.
 
 ghost use Rattle.std.specs.Prelude.{◌≡◌, ◌≢◌, ◌⊎◌, ℕ, ◌≤◌, List, Some, IfOk, MatchOption};
-ghost use Rattle.sw_tree.specs.Tree.{Stmt};
+ghost use Rattle.swda.specs.ThinTree.{Stmt};
 ghost use Rattle.sw_outside.specs.Causes.{Rose};
 ghost use Rattle.swda.specs.Source.{Spells, IsNotThin};
 ghost use Rattle.swda.specs.Answers.{run_words, plan_text, usage_text, load_fault_text, not_built_text, with_text, IsNoForm, RunSays, Says, WritesFront, Answers};

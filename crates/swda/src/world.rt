@@ -4,6 +4,7 @@ ghost use Rattle.std.specs.Prelude.{◌≡◌, ◌<◌, ◌≤◌, ◌+◌, ◌^
 ghost use Rattle.sw_job.specs.Machine.{frame};
 ghost use Rattle.sw_job.specs.declared.turn.Given.TheVariants.{Nothing};
 ghost use Rattle.swda.specs.History.{turn_entry};
+ghost use Rattle.swda.specs.World.{next_job, line_of, with_line};
 ghost use Rattle.swda.specs.declared.history.Event.TheVariants.{Turn};
 
 use crate::history::{Entry, Event, Label, TaskEnd, TaskLine};
@@ -117,12 +118,32 @@ fn turn_entry(alloc: Global, job: JobNo, begun: u64) -> Result<Entry, NoMemory>
     })
 }
 
-// The line that is asked to be printed.
-fn line_of(ask: Ask) -> Text
-    ensures { ask ≡ Ask.Print result }
+// What a turn leaves by its exit: the job, and the line that is to be printed, if any.
+fn left_by(exit: Exit, frames: Frames) -> (Job, Option<Text>)
+    ensures job { result.0 ≡ next_job exit frames }
+    ensures line { result.1 ≡ line_of exit }
 {
-    match ask {
-        Ask::Print(line) => line,
+    match exit {
+        Exit::Ask(Ask::Print(line)) => {
+            let given = Given::Value(Value::Void);
+            (Job::Ready(TurnStart { frames, given }), Some(line))
+        }
+        Exit::Return(_) => (Job::Ended, None),
+        Exit::Trap(kind) => (Job::Trapped(kind), None),
+        Exit::Slice => {
+            let given = Given::Nothing;
+            (Job::Ready(TurnStart { frames, given }), None)
+        }
+    }
+}
+
+// Adds a line to a log, if there is one.
+fn print_line(log: &mut Texts, line: Option<Text>) -> Result<(), NoMemory>
+    ensures { OnOk result (log.new ≡ with_line log.old line) }
+{
+    match line {
+        None => Ok(()),
+        Some(line) => log.push(line),
     }
 }
 
@@ -191,39 +212,12 @@ impl World {
         } = run_job(self.alloc, &self.code, start, SLICE)?;
         let entry = turn_entry(self.alloc, job, begun)?;
         self.history.reserve(1)?;
-        match exit {
-            Exit::Ask(ask) => {
-                self.log.push(line_of(ask))?;
-                push_reserved(&mut self.history, entry);
-                self.begun += begun;
-                self.job = Job::Ready(TurnStart {
-                    frames,
-                    given: Given::Value(Value::Void),
-                });
-                Ok(())
-            }
-            Exit::Return(_) => {
-                push_reserved(&mut self.history, entry);
-                self.begun += begun;
-                self.job = Job::Ended;
-                Ok(())
-            }
-            Exit::Trap(kind) => {
-                push_reserved(&mut self.history, entry);
-                self.begun += begun;
-                self.job = Job::Trapped(kind);
-                Ok(())
-            }
-            Exit::Slice => {
-                push_reserved(&mut self.history, entry);
-                self.begun += begun;
-                self.job = Job::Ready(TurnStart {
-                    frames,
-                    given: Given::Nothing,
-                });
-                Ok(())
-            }
-        }
+        let (left, line) = left_by(exit, frames);
+        print_line(&mut self.log, line)?;
+        push_reserved(&mut self.history, entry);
+        self.begun += begun;
+        self.job = left;
+        Ok(())
     }
 
     /// The driver's next event: the turn of the one job, while it is ready.

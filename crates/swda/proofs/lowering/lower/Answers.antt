@@ -1,7 +1,7 @@
 use Rattle.std.proofs.Common.{◌≡◌, ◌∙◌, map, sym, subst, arith}
 use Rattle.std.proofs.lemmas.Grind.{common_steps}
 use Rattle.sw_job.specs.Typed.{IsTyped}
-use Rattle.sw_tree.specs.Trees.{func_of, funcs_of}
+use Rattle.swda.specs.ThinTrees.{func_of, funcs_of}
 use Rattle.swda.specs.Codes.{func_code}
 use Rattle.swda.proofs.LoweringLemmas.{all_lowered}
 use Rattle.swda.proofs.Typing.{typed_map}

@@ -1,5 +1,5 @@
 use Rattle.std.proofs.Common.{◌≡◌, map, take}
-use Rattle.sw_tree.specs.Trees.{func_of}
+use Rattle.swda.specs.ThinTrees.{func_of}
 use Rattle.swda.specs.Codes.{func_code}
 use Rattle.swda.proofs.lowering.lower.Given as goal
 

@@ -1,6 +1,6 @@
 use Rattle.std.proofs.Common.{◌≡◌, ◌∷◌, ◌++◌, [], drop, sym, ap, ◌∙◌, arith, subst, add-one, length, ◌+◌}
 use Rattle.std.proofs.lemmas.List.{append-nil}
-use Rattle.sw_tree.specs.Trees.{stmt_of, body_of}
+use Rattle.swda.specs.ThinTrees.{stmt_of, body_of}
 use Rattle.swda.specs.Codes.{declared_types, body_code, body_shapes}
 use Rattle.swda.specs.Drafts.{scope_of}
 use Rattle.swda.proofs.LoweringLemmas.{next_left, none_to_do, variables_more, instrs_more, shapes_more, lowered}

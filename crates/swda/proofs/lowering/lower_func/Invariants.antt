@@ -1,5 +1,5 @@
 use Rattle.std.proofs.Common.{◌≡◌, ◌++◌, [], drop}
-use Rattle.sw_tree.specs.Trees.{body_of}
+use Rattle.swda.specs.ThinTrees.{body_of}
 use Rattle.swda.specs.Codes.{body_code, body_shapes, declared_types}
 use Rattle.swda.specs.Drafts.{scope_of}
 use Rattle.swda.proofs.lowering.lower_func.Given as goal

@@ -1,7 +1,7 @@
 use Rattle.std.proofs.Common.{◌≡◌, [], None, true, false, ap, ◌∙◌, sym, subst}
 use Rattle.std.specs.Option.{is_some}
 use Rattle.std.specs.List.{AllByRecursion}
-use Rattle.sw_tree.specs.Trees.{body_of, funcs_of}
+use Rattle.swda.specs.ThinTrees.{body_of, funcs_of}
 use Rattle.swda.specs.Codes.{IsTypedBody}
 use Rattle.swda.specs.Source.{main_func}
 use Rattle.swda.specs.World.{Run, trap_of}

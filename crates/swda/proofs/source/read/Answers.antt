@@ -2,7 +2,7 @@ use Rattle.std.proofs.Common.{◌≡◌, ◌+◌, length, ap, sym, ◌∙◌, ar
 use Rattle.std.specs.Prelude.{nat_eq, not}
 use Rattle.std.specs.Cmp.Lexicographic.{pointwise}
 use Rattle.std.proofs.lemmas.Bool.{false≢true}
-use Rattle.sw_tree.specs.Trees.{body_of, stmt_of}
+use Rattle.swda.specs.ThinTrees.{body_of, stmt_of}
 use Rattle.swda.specs.Source.{first_line, last_line}
 use Rattle.swda.proofs.NameLemmas.{stripped}
 use Rattle.swda.proofs.SourceLemmas.{read_all, read_again, same_bytes, spelled}

@@ -1,5 +1,5 @@
 use Rattle.std.proofs.Common.{length}
-use Rattle.sw_tree.specs.Trees.{body_of}
+use Rattle.swda.specs.ThinTrees.{body_of}
 use Rattle.swda.proofs.SourceLemmas.{Read}
 use Rattle.swda.proofs.source.read.Given as goal
 

@@ -3,7 +3,7 @@ use borrow.Author.Rules.{to_z-of_z_to, sfits_of}
 use Rattle.std.specs.Prelude.{codes}
 use Rattle.swda.proofs.SumLemmas.{summed_start, summed_again, summed_no_term, summed_no_start, summed_long, summed_rest}
 use Rattle.swda.proofs.NameLemmas.{stripped, not_stripped, not_empty_is}
-use Rattle.sw_tree.specs.Trees.{expr_of}
+use Rattle.swda.specs.ThinTrees.{expr_of}
 use Rattle.swda.proofs.source.read_sum.Goals as goal
 use Rattle.swda.proofs.source.read_sum.Goals.{then-not-is_empty-via-then-not-is_empty, then-not-is_empty-via-else-not-is_empty+then-terms-gt-MOST_TERMS}
 

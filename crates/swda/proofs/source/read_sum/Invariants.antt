@@ -1,5 +1,5 @@
 use Rattle.std.proofs.Common.{length}
-use Rattle.sw_tree.specs.Trees.{expr_of}
+use Rattle.swda.specs.ThinTrees.{expr_of}
 use Rattle.swda.proofs.SumLemmas.{Summed}
 use Rattle.swda.proofs.source.read_sum.Given as goal
 

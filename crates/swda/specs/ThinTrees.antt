@@ -1,12 +1,12 @@
 -- The tree, as definitions see it, of each value of the types of the code.
 use Rattle.std.specs.Prelude.{List, map}
-use Rattle.sw_tree.specs.Tree as t
-use Rattle.sw_tree.specs.declared.Expr.{Expr, fold-Expr}
-use Rattle.sw_tree.specs.declared.Expr.TheOpen.{Expr-F}
-use Rattle.sw_tree.specs.declared.Stmt.{Stmt}
-use Rattle.sw_tree.specs.declared.Stmt.TheVariants as s
-use Rattle.sw_tree.specs.declared.Func.{Func}
-use Rattle.sw_tree.specs.declared.Tree.{Tree}
+use Rattle.swda.specs.ThinTree as t
+use Rattle.swda.specs.declared.thin.Expr.{Expr, fold-Expr}
+use Rattle.swda.specs.declared.thin.Expr.TheOpen.{Expr-F}
+use Rattle.swda.specs.declared.thin.Stmt.{Stmt}
+use Rattle.swda.specs.declared.thin.Stmt.TheVariants as s
+use Rattle.swda.specs.declared.thin.Func.{Func}
+use Rattle.swda.specs.declared.thin.Tree.{Tree}
 
 abbrev pub expr_level : Expr-F t.Expr → t.Expr
 expr_level (Expr-F.Int n) = t.Int n
