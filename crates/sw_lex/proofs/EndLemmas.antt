@@ -12,10 +12,13 @@ use Rattle.sw_lex.specs.declared.forms.Begin.{Begin}
 use Rattle.sw_lex.specs.declared.forms.Begin.TheVariants.{End, Gap, Token, Formless, Unclosed}
 use Rattle.sw_lex.specs.declared.telling.Here.{Here}
 use Rattle.sw_lex.specs.Bytes.{Text, is_in}
-use Rattle.sw_lex.specs.Tables.{Table, words, marks, is_same_text, kind_in, begins_with, first_mark, mark}
-use Rattle.sw_lex.specs.Forms.{begins, block, has_three_quotes, quoted, resumed, named, size_of}
+use Rattle.sw_lex.specs.Tables.{Table, words, marks, is_same_text, kind_in, begins_with}
+use Rattle.sw_lex.specs.Reading.{first_mark, mark, begins, block, quoted, resumed, named}
+use Rattle.sw_lex.specs.Forms.{has_three_quotes, size_of}
 use Rattle.sw_lex.specs.Cut.{Opens, Cut, after, is_inside, closes}
-use Rattle.sw_lex.specs.Tokens.{told, beyond, token_at, text_of, EndsOnce}
+use Rattle.sw_lex.specs.Tokens.{beyond, token_at, EndsOnce}
+use Rattle.sw_lex.specs.Telling.{told, token_text}
+use Rattle.sw_lex.proofs.ReadingLemmas.{read}
 
 abbrev is_end : TokenKind → Bool
 is_end k.End = true
@@ -110,11 +113,11 @@ ends_more token (next ∷ tokens) other h = (other, h)
 pub told_ends_once : (end : Span) (here : Here) (opens : Opens) (good : ℕ) (bytes : Text) (items : List Begin) (stop : Begin) → Cut opens good bytes items stop → EndsOnce (told end here bytes items)
 told_ends_once end here opens good bytes [] stop h = (refl, refl)
 told_ends_once end here opens good bytes (item ∷ items) stop h =
-    go item (ap is_end_token (sym h.0) ∙ begins_no_end (is_inside opens) (closes opens) good bytes)
+    go item (ap is_end_token (sym (read (is_inside opens) (closes opens) good bytes item h.0)) ∙ begins_no_end (is_inside opens) (closes opens) good bytes)
     (told_ends_once end (beyond here bytes item) (after opens item) (good - size_of item) (drop (size_of item) bytes) items stop h.2)
   where
     go : (x : Begin) → is_end_token x ≡ false → EndsOnce (told end (beyond here bytes x) (drop (size_of x) bytes) items) → EndsOnce (told end here bytes (x ∷ items))
-    go (Token kind size) e later = ends_more (token_at here.place here kind (text_of kind (take size bytes))) (told end (beyond here bytes (Token kind size)) (drop size bytes) items) (not_end kind e) later
+    go (Token kind size) e later = ends_more (token_at here.place here kind (token_text kind (take size bytes))) (told end (beyond here bytes (Token kind size)) (drop size bytes) items) (not_end kind e) later
     go (Gap size) e later = later
     go End e later = later
     go Formless e later = later

@@ -3,5 +3,16 @@ mod NumberLemmas
 mod CutLemmas
 mod OneCut
 mod FirstLemmas
+mod StopLemmas
+mod LargeLemmas
 mod RuleLemmas
+mod PlaceLemmas
+mod RefusalLemmas
+mod HexLemmas
+mod PieceLemmas
+mod RunLemmas
+mod CommentLemmas
+mod MarkLemmas
+mod ReadingLemmas
+mod TellLemmas
 mod EndLemmas

@@ -7,9 +7,12 @@ use Rattle.sw_lex.specs.declared.token.Token.{Token as SourceToken}
 use Rattle.sw_lex.specs.declared.forms.Begin.{Begin}
 use Rattle.sw_lex.specs.declared.forms.Begin.TheVariants.{End, Gap, Token, Formless, Unclosed}
 use Rattle.sw_lex.specs.Bytes.{Text}
-use Rattle.sw_lex.specs.Forms.{size_of, IsStop}
-use Rattle.sw_lex.specs.Cut.{Opens, Cut, CutOf, after, IsGood}
-use Rattle.sw_lex.specs.Tokens.{CutsInto, tokens_of}
+use Rattle.sw_lex.specs.Forms.{Begins, size_of, IsStop}
+use Rattle.sw_lex.specs.Cut.{Opens, Cut, CutOf, after, closes, is_inside, IsGood}
+use Rattle.sw_lex.specs.Tokens.{CutsInto, end_place, start}
+use Rattle.sw_lex.specs.Telling.{tokens_of}
+use Rattle.sw_lex.proofs.ReadingLemmas.{read}
+use Rattle.sw_lex.proofs.TellLemmas.{tokens_told}
 
 -- what stops a cut has no bytes
 stop_empty : (x : Begin) → IsStop x → size_of x ≡ 0
@@ -19,21 +22,25 @@ stop_empty (Token kind n) h = absurd h
 stop_empty Formless h = refl
 stop_empty Unclosed h = refl
 
+-- one thing begins at a place
+one_begin : (opens : Opens) (good : ℕ) (z : Text) (x y : Begin) → Begins (is_inside opens) (closes opens) good z x → Begins (is_inside opens) (closes opens) good z y → x ≡ y
+one_begin opens good z x y h h' = sym (read (is_inside opens) (closes opens) good z x h) ∙ read (is_inside opens) (closes opens) good z y h'
+
 -- the same bytes are cut in one way
 one_cut : (opens : Opens) (good : ℕ) (z : Text) (xs ys : List Begin) (e f : Begin) → Cut opens good z xs e → Cut opens good z ys f → (xs ≡ ys) × (e ≡ f)
-one_cut opens good z [] [] e f h h' = (refl, sym h.0 ∙ h'.0)
+one_cut opens good z [] [] e f h h' = (refl, one_begin opens good z e f h.0 h'.0)
 one_cut opens good z [] (y ∷ ys) e f h h' =
-    let same : e ≡ y = sym h.0 ∙ h'.0 in
+    let same : e ≡ y = one_begin opens good z e y h.0 h'.0 in
     let none : size_of e ≡ 0 = stop_empty e h.1 in
     let some : 0 < size_of y = h'.1 in
     absurd (omega (arith, ap size_of same))
 one_cut opens good z (x ∷ xs) [] e f h h' =
-    let same : x ≡ f = sym h.0 ∙ h'.0 in
+    let same : x ≡ f = one_begin opens good z x f h.0 h'.0 in
     let none : size_of f ≡ 0 = stop_empty f h'.1 in
     let some : 0 < size_of x = h.1 in
     absurd (omega (arith, ap size_of same))
 one_cut opens good z (x ∷ xs) (y ∷ ys) e f h h' =
-    let same : y ≡ x = sym h'.0 ∙ h.0 in
+    let same : y ≡ x = one_begin opens good z y x h'.0 h.0 in
     let rest : Cut (after opens x) (good - size_of x) (drop (size_of x) z) ys f = subst (λ (w : Begin). Cut (after opens w) (good - size_of w) (drop (size_of w) z) ys f) same (h'.2) in
     let p = one_cut (after opens x) (good - size_of x) (drop (size_of x) z) xs ys e f h.2 rest in
     (cc (p.0, same), p.1)
@@ -72,4 +79,4 @@ one_whole source good xs e g h whole =
 pub one_list : (source : Text) (good : ℕ) (xs : List Begin) (e : Begin) → IsGood source good → Cut [] good source xs e → (tokens : List SourceToken) → CutsInto source tokens → tokens ≡ tokens_of source xs
 one_list source good xs e g h tokens k =
     let p = one_whole source good xs e g h k.whole in
-    k.same ∙ ap (λ items. tokens_of source items) p.0
+    tokens_told (end_place source) start k.whole.good source k.whole.items tokens k.same ∙ ap (λ items. tokens_of source items) p.0

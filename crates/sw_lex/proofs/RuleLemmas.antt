@@ -1,5 +1,5 @@
 -- What is found of each rule is where it is broken first.
-use Rattle.std.proofs.Common.{◌≡◌, ◌<◌, ◌≤◌, ◌⊎◌, ℕ, ◌+◌, Bool, true, false, cond, Option, Some, None, List, [], ◌∷◌, length, drop, refl, ap, sym, ◌∙◌, subst, arith, nat_lt}
+use Rattle.std.proofs.Common.{◌≡◌, ◌<◌, ◌≤◌, ◌⊎◌, ℕ, ◌+◌, Bool, true, false, cond, Option, Some, None, List, [], ◌∷◌, length, drop, refl, sym, ◌∙◌, subst, arith, nat_lt}
 use Rattle.std.proofs.lemmas.Grind.{common_steps}
 use mathlib.Core.Logic.{inl, inr}
 use Rattle.std.specs.Prelude.{IfSome}
@@ -11,9 +11,11 @@ use Rattle.sw_lex.specs.declared.forms.Begin.TheVariants.{End, Gap, Token, Forml
 use Rattle.sw_lex.specs.Bytes.{Text}
 use Rattle.sw_lex.specs.Forms.{size_of, IsStop}
 use Rattle.sw_lex.specs.Cut.{Cut, CutOf, IsGood}
-use Rattle.sw_lex.specs.Rules.{Breaks, IsBefore, IsFirst, HasTooLarge, StopsAt, is_too_large, stop_at}
-use Rattle.sw_lex.specs.Finding.{Found, bad_found, stop_found, large_at, large_found, long_found}
+use Rattle.sw_lex.specs.Rules.{Breaks, IsStopPlace, StopsAt}
+use Rattle.sw_lex.specs.Finding.{FindsTooLarge, Found, IsBefore, IsFirst, bad_found, is_too_large, large_at, large_found, long_found, stop_at, stop_found}
 use Rattle.sw_lex.proofs.OneCut.{not_short, one_length, one_whole}
+use Rattle.sw_lex.proofs.LargeLemmas.{has_large, large_found_at}
+use Rattle.sw_lex.proofs.StopLemmas.{stop_place, one_place}
 use Rattle.sw_lex.proofs.FirstLemmas.{pair, before_same, first_same, first_union}
 
 -- ---- the kinds of rules, each by itself
@@ -25,7 +27,7 @@ abbrev BreaksForm : Text → Rule → ℕ → Type 0
 BreaksForm source rule at = ((rule ≡ L2) × StopsAt source Formless at) ⊎ ((rule ≡ L3) × StopsAt source Unclosed at)
 
 abbrev BreaksSize : Text → Rule → ℕ → Type 0
-BreaksSize source rule at = (rule ≡ L4) × ((whole : CutOf source) × HasTooLarge 0 source whole.items at)
+BreaksSize source rule at = (rule ≡ L4) × ((whole : CutOf source) × FindsTooLarge 0 source whole.items at)
 
 abbrev BreaksLength : Text → Rule → ℕ → Type 0
 BreaksLength source rule at = (rule ≡ L5) × ((at ≡ 0) × (1048576 < length source))
@@ -40,14 +42,14 @@ any_breaks : (source : Text) (rule : Rule) (at : ℕ) → BreaksAny source rule 
 any_breaks source rule at (inl (inl (inl h))) = breaks_of source rule L1 at h.0 h.1
 any_breaks source rule at (inl (inl (inr (inl h)))) = breaks_of source rule L2 at h.0 h.1
 any_breaks source rule at (inl (inl (inr (inr h)))) = breaks_of source rule L3 at h.0 h.1
-any_breaks source rule at (inl (inr h)) = breaks_of source rule L4 at h.0 h.1
+any_breaks source rule at (inl (inr h)) = breaks_of source rule L4 at h.0 (has_large source h.1.0 at h.1.1)
 any_breaks source rule at (inr h) = breaks_of source rule L5 at h.0 h.1
 
 breaks_any : (source : Text) (rule : Rule) (at : ℕ) → Breaks source rule at → BreaksAny source rule at
 breaks_any source L1 at h = inl (inl (inl (refl, h)))
 breaks_any source L2 at h = inl (inl (inr (inl (refl, h))))
 breaks_any source L3 at h = inl (inl (inr (inr (refl, h))))
-breaks_any source L4 at h = inl (inr (refl, h))
+breaks_any source L4 at h = inl (inr (refl, large_found_at source at h))
 breaks_any source L5 at h = inr (refl, h)
 breaks_any source rule at h = absurd h
 
@@ -76,7 +78,7 @@ stop_first source good items End g c s = λ rule at h. elim h [ inl p ↦ none r
     none : (rule : Rule) (at : ℕ) (own : Rule) (stop : Begin) → (stop ≡ End → ⊥) → (rule ≡ own) × StopsAt source stop at → ⊥
     none rule at own stop other h = other (sym h.1.1 ∙ (one_whole source good items End g c h.1.0).1)
 stop_first source good items Formless g c s = (
-  inl (refl, (whole, refl, refl)),
+  inl (refl, (whole, refl, stop_place items)),
   λ rule at h. elim h [ inl p ↦ before_of L2 rule _ at p.0 (place at p.1) | inr p ↦ absurd (other at p.1) ],
 )
   where
@@ -84,12 +86,12 @@ stop_first source good items Formless g c s = (
     whole = record { good = good; items = items; stop = Formless; front = g; cut = c }
 
     place : (at : ℕ) → StopsAt source Formless at → stop_at 0 0 [] items ≡ at
-    place at h = ap (λ xs. stop_at 0 0 [] xs) (sym (one_whole source good items Formless g c h.0).0) ∙ sym h.2
+    place at h = one_place items (stop_at 0 0 [] items) at (stop_place items) (subst (λ (xs : List Begin). IsStopPlace xs at) (one_whole source good items Formless g c h.0).0 h.2)
 
     other : (at : ℕ) → StopsAt source Unclosed at → ⊥
     other at h = let e : Unclosed ≡ Formless = sym h.1 ∙ (one_whole source good items Formless g c h.0).1 in cc
 stop_first source good items Unclosed g c s = (
-  inr (refl, (whole, refl, refl)),
+  inr (refl, (whole, refl, stop_place items)),
   λ rule at h. elim h [ inl p ↦ absurd (other at p.1) | inr p ↦ before_of L3 rule _ at p.0 (place at p.1) ],
 )
   where
@@ -97,7 +99,7 @@ stop_first source good items Unclosed g c s = (
     whole = record { good = good; items = items; stop = Unclosed; front = g; cut = c }
 
     place : (at : ℕ) → StopsAt source Unclosed at → stop_at 0 0 [] items ≡ at
-    place at h = ap (λ xs. stop_at 0 0 [] xs) (sym (one_whole source good items Unclosed g c h.0).0) ∙ sym h.2
+    place at h = one_place items (stop_at 0 0 [] items) at (stop_place items) (subst (λ (xs : List Begin). IsStopPlace xs at) (one_whole source good items Unclosed g c h.0).0 h.2)
 
     other : (at : ℕ) → StopsAt source Formless at → ⊥
     other at h = let e : Formless ≡ Unclosed = sym h.1 ∙ (one_whole source good items Unclosed g c h.0).1 in cc
@@ -106,15 +108,15 @@ stop_first source good items (Token kind n) g c s = absurd s
 
 -- ---- integers that are too large
 
-large_behind : (at place : ℕ) (bytes : Text) (items : List Begin) → HasTooLarge at bytes items place → at ≤ place
+large_behind : (at place : ℕ) (bytes : Text) (items : List Begin) → FindsTooLarge at bytes items place → at ≤ place
 large_behind at place bytes [] h = absurd h
 large_behind at place bytes (item ∷ items) (inl h) = omega (arith, h.0)
 large_behind at place bytes (item ∷ items) (inr h) = omega (arith, large_behind (at + size_of item) place (drop (size_of item) bytes) items h)
 
 -- what is found is too large, and what is too large stands no earlier
 abbrev IsFirstLarge : ℕ → Text → List Begin → Option ℕ → Type 0
-IsFirstLarge at bytes items None = (place : ℕ) → HasTooLarge at bytes items place → ⊥
-IsFirstLarge at bytes items (Some found) = HasTooLarge at bytes items found × ((place : ℕ) → HasTooLarge at bytes items place → found ≤ place)
+IsFirstLarge at bytes items None = (place : ℕ) → FindsTooLarge at bytes items place → ⊥
+IsFirstLarge at bytes items (Some found) = FindsTooLarge at bytes items found × ((place : ℕ) → FindsTooLarge at bytes items place → found ≤ place)
 
 first_large : (at : ℕ) (bytes : Text) (items : List Begin) → IsFirstLarge at bytes items (large_at at bytes items)
 first_large at bytes [] = λ place h. h
@@ -131,8 +133,8 @@ large_first source good items stop g c = go (large_at 0 source items) (first_lar
     whole : CutOf source
     whole = record { good = good; items = items; stop = stop; front = g; cut = c }
 
-    same : (at : ℕ) → ((whole : CutOf source) × HasTooLarge 0 source whole.items at) → HasTooLarge 0 source items at
-    same at h = subst (λ (xs : List Begin). HasTooLarge 0 source xs at) (one_whole source good items stop g c h.0).0 h.1
+    same : (at : ℕ) → ((whole : CutOf source) × FindsTooLarge 0 source whole.items at) → FindsTooLarge 0 source items at
+    same at h = subst (λ (xs : List Begin). FindsTooLarge 0 source xs at) (one_whole source good items stop g c h.0).0 h.1
 
     before : (rule : Rule) (found at : ℕ) → rule ≡ L4 → found ≤ at → IsBefore L4 found rule at
     before rule found at e h = subst (λ (r : Rule). IsBefore L4 found r at) (sym e) (step (nat_lt found at) refl)
@@ -195,7 +197,7 @@ stops_at_end source whole s h = go whole.stop refl s
   where
     go : (stop : Begin) → whole.stop ≡ stop → IsStop stop → whole.stop ≡ End
     go End e s = e
-    go Formless e s = absurd (h L2 _ (whole, e, refl))
-    go Unclosed e s = absurd (h L3 _ (whole, e, refl))
+    go Formless e s = absurd (h L2 _ (whole, e, stop_place whole.items))
+    go Unclosed e s = absurd (h L3 _ (whole, e, stop_place whole.items))
     go (Gap n) e s = absurd s
     go (Token kind n) e s = absurd s

@@ -4,7 +4,7 @@ use Rattle.std.proofs.Common.{◌<◌, append_assoc, length-drop, ◌≡◌, ◌
 use Rattle.sw_lex.specs.declared.strings.Piece.TheVariants.{Plain}
 use Rattle.std.specs.Prelude.{slice_index, ◌==◌, Bool, true, false, cond, length, ◌++◌}
 use Rattle.sw_lex.specs.Bytes.{Text}
-use Rattle.sw_lex.specs.Strings.{piece, pieces, after_piece, hex_len, decoded, spoken, spoken_len}
+use Rattle.sw_lex.specs.Reading.{piece, pieces, after_piece, hex_len, decoded, spoken, spoken_len}
 
 skipped : (k n g : ℕ) (z : Text) → pieces k n g z ≡ pieces 0 (n + k) (g - k) (drop k z)
 skipped zero n g z = let a : n + 0 ≡ n = omega arith in let b : g - 0 ≡ g = omega arith in rw (a, b)

@@ -34,6 +34,14 @@ left_paren = 40
 abbrev pub right_paren : ℕ
 right_paren = 41
 
+-- `{`
+abbrev pub left_brace : ℕ
+left_brace = 123
+
+-- `}`
+abbrev pub right_brace : ℕ
+right_brace = 125
+
 -- `*`
 abbrev pub star : ℕ
 star = 42

@@ -1,19 +1,36 @@
--- What is found of each rule in a cut: the place where it is broken first, if it is.
-use Rattle.std.specs.Prelude.{ℕ, ◌+◌, if◌then◌else◌, nat_lt, List, [], ◌∷◌, drop, length, Option, Some, None}
+-- Machinery, for private contracts alone: what the code finds of each rule in a cut, and the first by offset.
+use Rattle.std.specs.Prelude.{◌≡◌, ◌≤◌, ◌<◌, ◌⊎◌, ℕ, ◌+◌, Bool, true, false, if◌then◌else◌, nat_lt, List, [], ◌∷◌, take, drop, length, Option, Some, None}
 use Rattle.sw_rules.specs.declared.Rule.{Rule}
 use Rattle.sw_rules.specs.declared.Rule.TheVariants.{L1, L2, L3, L4, L5}
+use Rattle.sw_rules.specs.Rule.{rule_order}
+use Rattle.sw_lex.specs.declared.token.TokenKind.TheVariants as k
 use Rattle.sw_lex.specs.declared.forms.Begin.{Begin}
-use Rattle.sw_lex.specs.declared.forms.Begin.TheVariants.{Formless, Unclosed}
+use Rattle.sw_lex.specs.declared.forms.Begin.TheVariants.{Token, Formless, Unclosed}
 use Rattle.sw_lex.specs.Bytes.{Text}
 use Rattle.sw_lex.specs.Forms.{size_of}
-use Rattle.sw_lex.specs.Rules.{stop_at, is_too_large}
+use Rattle.sw_lex.specs.Cut.{Opens, is_inside, after}
+use Rattle.sw_lex.specs.Rules.{greatest, number}
 
 abbrev pub Found : Type 0
 Found = Option (Rule × ℕ)
 
+-- by place, then by order
+abbrev pub IsBefore : Rule → ℕ → Rule → ℕ → Type 0
+IsBefore rule at rule' at' = (at < at') ⊎ ((at ≡ at') × (rule_order rule ≤ rule_order rule'))
+
+-- what is found is the first that holds; nothing is found where none holds
+abbrev pub IsFirst : (Rule → ℕ → Type 0) → Found → Type 0
+IsFirst Holds None = (rule : Rule) (at : ℕ) → Holds rule at → ⊥
+IsFirst Holds (Some found) = Holds found.0 found.1 × ((rule : Rule) (at : ℕ) → Holds rule at → IsBefore found.0 found.1 rule at)
+
 -- the first byte that is not UTF-8
 abbrev pub bad_found : Text → ℕ → Found
 bad_found source good = if nat_lt good (length source) then Some (L1, good) else None
+
+-- where the cut stops, read from `at` on, where the outermost string that is open begins at `outer`
+abbrev pub stop_at : ℕ → ℕ → Opens → List Begin → ℕ
+stop_at at outer opens [] = if is_inside opens then outer else at
+stop_at at outer opens (item ∷ items) = stop_at (at + size_of item) (if is_inside opens then outer else at) (after opens item) items
 
 -- what has no form, or is not closed
 abbrev pub stop_found : Begin → List Begin → Found
@@ -21,7 +38,18 @@ stop_found Formless items = Some (L2, stop_at 0 0 [] items)
 stop_found Unclosed items = Some (L3, stop_at 0 0 [] items)
 stop_found stop items = None
 
--- the first integer above the greatest
+-- an integer above the greatest
+abbrev pub is_too_large : Text → Begin → Bool
+is_too_large bytes (Token k.Integer size) = nat_lt greatest (number 0 (take size bytes))
+is_too_large bytes begin = false
+
+-- one of these is an integer above the greatest and stands at `place`, where the first stands at `at`
+abbrev pub FindsTooLarge : ℕ → Text → List Begin → ℕ → Type 0
+FindsTooLarge at bytes [] place = ⊥
+FindsTooLarge at bytes (item ∷ items) place =
+    ((place ≡ at) × (is_too_large bytes item ≡ true)) ⊎ FindsTooLarge (at + size_of item) (drop (size_of item) bytes) items place
+
+-- the first of them
 abbrev pub large_at : ℕ → Text → List Begin → Option ℕ
 large_at at bytes [] = None
 large_at at bytes (item ∷ items) = if is_too_large bytes item then Some at else large_at (at + size_of item) (drop (size_of item) bytes) items

@@ -1,75 +1,135 @@
 -- What begins at a place of a source: the end, white space or a comment, a token, or nothing that has a form.
-use Rattle.std.specs.Prelude.{◌≤◌, ℕ, zero, suc, ◌+◌, ◌-◌, Bool, ◌&&◌, if◌then◌else◌, ◌==◌, [], ◌∷◌, take, drop, length, slice_index, Option, Some, None}
+use Rattle.std.specs.Prelude.{◌≡◌, ◌≤◌, ◌⊎◌, ℕ, ◌+◌, ◌-◌, Bool, true, false, ◌&&◌, ◌==◌, List, [], ◌∷◌, ◌++◌, take, length, slice_index}
 use Rattle.std.specs.List.{prefix_len}
 use Rattle.sw_lex.specs.declared.bytes.Class.TheVariants as class
+use Rattle.sw_lex.specs.declared.token.TokenKind.{TokenKind}
 use Rattle.sw_lex.specs.declared.token.TokenKind.TheVariants as k
-use Rattle.sw_lex.specs.declared.strings.Strand.{Strand}
-use Rattle.sw_lex.specs.declared.strings.Strand.TheVariants as strand
 use Rattle.sw_lex.specs.declared.forms.Begin.{Begin}
 use Rattle.sw_lex.specs.declared.forms.Begin.TheVariants.{End, Gap, Token, Formless, Unclosed}
-use Rattle.sw_lex.specs.Bytes.{Text, is_in, has_line_end, line_feed, quote, right_paren, star, slash}
-use Rattle.sw_lex.specs.Tables.{kind_of_word, mark}
-use Rattle.sw_lex.specs.Strings.{pieces}
+use Rattle.sw_lex.specs.Bytes.{Text, is_in, has_line_end, line_feed, quote, left_paren, right_paren, star, slash, backslash}
+use Rattle.sw_lex.specs.Tables.{kind_of_word, marks, IsListed, begins_with}
+use Rattle.sw_lex.specs.Strings.{Part, ArePieces, bytes_of}
+use Rattle.sw_lex.specs.Comments.{Closes}
 
--- ---- comments that nest
+-- the first byte, and the second; 0 where there is none
+abbrev pub first : Text → ℕ
+first bytes = slice_index bytes 0
 
--- The length of a comment by the bytes from here on, where `before` bytes of it stand before, `depth` comments are
--- open, and the first `left` bytes belong to the mark before; none where it is not closed.
-abbrev pub comment_len : ℕ → ℕ → ℕ → Text → Option ℕ
-comment_len left depth before [] = None
-comment_len (suc left) depth before (byte ∷ bytes) = comment_len left depth (before + 1) bytes
-comment_len zero depth before (byte ∷ bytes) =
-    if byte == star && slice_index bytes 0 == slash then (if depth == 1 then Some (before + 2) else comment_len 1 (depth - 1) (before + 1) bytes)
-    else (if byte == slash && slice_index bytes 0 == star then comment_len 1 (depth + 1) (before + 1) bytes
-    else comment_len 0 depth (before + 1) bytes)
+abbrev pub second : Text → ℕ
+second bytes = slice_index bytes 1
 
--- the comment that begins with `/*` and has this length, inside of a string or not: a string ends on its line
-abbrev pub block : Bool → Text → Option ℕ → Begin
-block inside bytes None = Unclosed
-block inside bytes (Some size) = if inside && has_line_end (take size bytes) then Unclosed else Gap size
+-- no byte is left, or a line ends here
+abbrev pub IsLineEnd : Text → Type 0
+IsLineEnd [] = Unit {0}
+IsLineEnd (byte ∷ bytes) = byte ≡ line_feed
 
--- ---- strings
+-- ---- white space and comments
 
--- three quotes in a row
+-- a byte of white space; inside of a string no line's end
+abbrev pub IsSpace : Bool → Text → ℕ → Type 0
+IsSpace inside bytes size = (size ≡ 1) × ((first bytes == line_feed && inside) ≡ false) × (is_in class.Space (first bytes) ≡ true)
+
+abbrev pub is_line_comment : Text → Bool
+is_line_comment bytes = first bytes == slash && second bytes == slash
+
+abbrev pub is_block_comment : Text → Bool
+is_block_comment bytes = first bytes == slash && second bytes == star
+
+-- `//` to the end of the line
+abbrev pub IsLineComment : Text → ℕ → Type 0
+IsLineComment bytes size = (is_line_comment bytes ≡ true) × (size ≡ prefix_len (is_in class.Line) bytes)
+
+-- `/*` to its `*/`, inside of a string on one line
+abbrev pub IsBlockComment : Bool → Text → ℕ → Type 0
+IsBlockComment inside bytes size =
+    (behind : Text) × (rest : Text)
+    × (bytes ≡ slash ∷ star ∷ behind)
+    × Closes behind rest
+    × (size + length rest ≡ length bytes)
+    × ((inside && has_line_end (take size bytes)) ≡ false)
+
+-- ---- tokens
+
+-- the longest run of letters, digits and `_`: a reserved word, or a name
+abbrev pub IsWord : Text → TokenKind → ℕ → Type 0
+IsWord bytes kind size =
+    (is_in class.NameStart (first bytes) ≡ true) × (size ≡ prefix_len (is_in class.Name) bytes) × (kind ≡ kind_of_word (take size bytes))
+
+-- the longest run of digits and `_`
+abbrev pub IsInteger : Text → TokenKind → ℕ → Type 0
+IsInteger bytes kind size =
+    (is_in class.Digit (first bytes) ≡ true) × (size ≡ prefix_len (is_in class.Integer) bytes) × (kind ≡ k.Integer)
+
+-- a byte, pieces, and what closes them
+abbrev pub IsString : ℕ → Text → ℕ → Text → ℕ → Type 0
+IsString mark closing good bytes size =
+    (parts : List Part) × (rest : Text)
+    × (bytes ≡ mark ∷ (bytes_of parts ++ (closing ++ rest)))
+    × ArePieces (good - 1) parts
+    × (size ≡ 1 + length (bytes_of parts) + length closing)
+
+-- a byte, pieces, and there the line or the source ends
+abbrev pub IsOpenString : ℕ → ℕ → Text → Type 0
+IsOpenString mark good bytes =
+    (parts : List Part) × (rest : Text) × (bytes ≡ mark ∷ (bytes_of parts ++ rest)) × ArePieces (good - 1) parts × IsLineEnd rest
+
+-- three quotes in a row begin no token
 abbrev pub has_three_quotes : Text → Bool
-has_three_quotes bytes = slice_index bytes 0 == quote && slice_index bytes 1 == quote && slice_index bytes 2 == quote
+has_three_quotes bytes = first bytes == quote && second bytes == quote && slice_index bytes 2 == quote
+
+-- `\(`
+abbrev pub opening : Text
+opening = backslash ∷ left_paren ∷ []
 
 -- a string from its quote on: whole, or up to `\(`
-abbrev pub quoted : Strand → Begin
-quoted (strand.Closed size) = Token k.StringWhole size
-quoted (strand.Opened size) = Token k.StringStart size
-quoted strand.Formless = Formless
-quoted strand.Unclosed = Unclosed
+abbrev pub IsQuoted : ℕ → Text → TokenKind → ℕ → Type 0
+IsQuoted good bytes kind size =
+    (has_three_quotes bytes ≡ false)
+    × (((kind ≡ k.StringWhole) × IsString quote (quote ∷ []) good bytes size) ⊎ ((kind ≡ k.StringStart) × IsString quote opening good bytes size))
 
 -- a string from the `)` on that closes a `\(` in it: to its end, or up to the next `\(`
-abbrev pub resumed : Strand → Begin
-resumed (strand.Closed size) = Token k.StringLast size
-resumed (strand.Opened size) = Token k.StringMiddle size
-resumed strand.Formless = Formless
-resumed strand.Unclosed = Unclosed
+abbrev pub IsResumed : ℕ → Text → TokenKind → ℕ → Type 0
+IsResumed good bytes kind size =
+    ((kind ≡ k.StringLast) × IsString right_paren (quote ∷ []) good bytes size)
+    ⊎ ((kind ≡ k.StringMiddle) × IsString right_paren opening good bytes size)
+
+-- the longest mark of the table that begins here, where no comment does; a `)` that closes a `\(` is none
+abbrev pub IsMark : Bool → Text → TokenKind → ℕ → Type 0
+IsMark closes bytes kind size =
+    (text : Text)
+    × IsListed marks text kind
+    × (begins_with text bytes ≡ true)
+    × (size ≡ length text)
+    × ((other : Text) (its : TokenKind) → IsListed marks other its → begins_with other bytes ≡ true → length other ≤ size)
+    × (is_line_comment bytes ≡ false)
+    × (is_block_comment bytes ≡ false)
+    × ((first bytes == right_paren && closes) ≡ false)
 
 -- ---- what begins
 
--- the name or word of this length
-abbrev pub named : Text → ℕ → Begin
-named bytes size = Token (kind_of_word (take size bytes)) size
+-- What has a form and begins with these bytes, `inside` of a string or not, where `)` closes a `\(` or not. The first
+-- `good` bytes are characters. Unclosed are a string whose line ends, a comment that does not end (inside of a string,
+-- on its line), and a string whose pieces reach the end of the line.
+abbrev pub HasForm : Bool → Bool → ℕ → Text → Begin → Type 0
+HasForm inside closes good bytes End = (inside ≡ false) × (bytes ≡ [])
+HasForm inside closes good bytes (Gap size) = IsSpace inside bytes size ⊎ IsLineComment bytes size ⊎ IsBlockComment inside bytes size
+HasForm inside closes good bytes (Token kind size) =
+    IsWord bytes kind size
+    ⊎ IsInteger bytes kind size
+    ⊎ IsQuoted good bytes kind size
+    ⊎ ((closes ≡ true) × IsResumed good bytes kind size)
+    ⊎ IsMark closes bytes kind size
+HasForm inside closes good bytes Unclosed =
+    ((inside ≡ true) × IsLineEnd bytes)
+    ⊎ ((is_block_comment bytes ≡ true) × ((size : ℕ) → IsBlockComment inside bytes size → ⊥))
+    ⊎ ((has_three_quotes bytes ≡ false) × IsOpenString quote good bytes)
+    ⊎ ((closes ≡ true) × IsOpenString right_paren good bytes)
+HasForm inside closes good bytes Formless = ⊥
 
--- What begins with these bytes, `inside` of a string or not, where `)` closes a `\(` or not. The first `good` bytes are
--- characters.
-unfoldable pub begins : Bool → Bool → ℕ → Text → Begin
-begins inside closes good bytes =
-    let first = slice_index bytes 0 in
-    let second = slice_index bytes 1 in
-    if length bytes == 0 then (if inside then Unclosed else End)
-    else (if first == line_feed && inside then Unclosed
-    else (if is_in class.Space first then Gap 1
-    else (if first == slash && second == slash then Gap (prefix_len (is_in class.Line) bytes)
-    else (if first == slash && second == star then block inside bytes (comment_len 0 1 2 (drop 2 bytes))
-    else (if is_in class.NameStart first then named bytes (prefix_len (is_in class.Name) bytes)
-    else (if is_in class.Digit first then Token k.Integer (prefix_len (is_in class.Integer) bytes)
-    else (if first == quote then (if has_three_quotes bytes then Formless else quoted (pieces 0 1 (good - 1) (drop 1 bytes)))
-    else (if first == right_paren && closes then resumed (pieces 0 1 (good - 1) (drop 1 bytes))
-    else mark bytes))))))))
+-- It begins here; it is formless where nothing that has a form begins.
+abbrev pub Begins : Bool → Bool → ℕ → Text → Begin → Type 0
+Begins inside closes good bytes Formless = (begin : Begin) → HasForm inside closes good bytes begin → ⊥
+Begins inside closes good bytes begin = HasForm inside closes good bytes begin
 
 -- how many bytes it has
 abbrev pub size_of : Begin → ℕ
@@ -78,14 +138,6 @@ size_of (Gap size) = size
 size_of (Token kind size) = size
 size_of Formless = 0
 size_of Unclosed = 0
-
--- a gap or a token has at least one byte, and no more than these
-abbrev pub IsWithin : Begin → ℕ → Type 0
-IsWithin End len = Unit {0}
-IsWithin (Gap size) len = (1 ≤ size) × (size ≤ len)
-IsWithin (Token kind size) len = (1 ≤ size) × (size ≤ len)
-IsWithin Formless len = Unit {0}
-IsWithin Unclosed len = Unit {0}
 
 -- it is no gap and no token
 abbrev pub IsStop : Begin → Type 0

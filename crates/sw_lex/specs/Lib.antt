@@ -1,9 +1,13 @@
+-- The words of this crate's contracts.
 pub mod Bytes
 pub mod Tables
 pub mod Strings
+pub mod Comments
 pub mod Forms
 pub mod Cut
 pub mod Tokens
 pub mod Rules
-pub mod Finding
 pub mod Lexing
+pub mod Reading
+pub mod Telling
+pub mod Finding

@@ -1,41 +1,43 @@
 -- The rules that a source breaks before it is parsed, each at its place, and the first of them.
-use Rattle.std.specs.Prelude.{◌≡◌, ◌≤◌, ◌<◌, ◌⊎◌, ℕ, ◌+◌, ◌-◌, ◌*◌, Bool, true, false, nat_lt, if◌then◌else◌, ◌==◌, List, [], ◌∷◌, take, drop, length, Option, Some, None}
+use Rattle.std.specs.Prelude.{◌≡◌, ◌≤◌, ◌<◌, ◌⊎◌, ℕ, ◌+◌, ◌-◌, ◌*◌, true, false, if◌then◌else◌, ◌==◌, List, [], ◌∷◌, take, drop, length}
 use Rattle.std.specs.Str.{IsValidUpTo}
 use Rattle.sw_rules.specs.declared.Rule.{Rule}
 use Rattle.sw_rules.specs.declared.Rule.TheVariants.{L1, L2, L3, L4, L5}
 use Rattle.sw_rules.specs.declared.Refusal.{Refusal}
+use Rattle.sw_rules.specs.Refusal.{Precedes}
 use Rattle.sw_lex.specs.declared.token.TokenKind.TheVariants as k
 use Rattle.sw_lex.specs.declared.forms.Begin.{Begin}
 use Rattle.sw_lex.specs.declared.forms.Begin.TheVariants.{Token, Formless, Unclosed}
 use Rattle.sw_lex.specs.Bytes.{Text, underscore}
-use Rattle.sw_lex.specs.Forms.{size_of}
-use Rattle.sw_lex.specs.Cut.{Opens, is_inside, after, CutOf}
+use Rattle.sw_lex.specs.Cut.{CutOf, StandsAt, total, is_open_behind}
 use Rattle.sw_lex.specs.Tokens.{place_at}
 
--- Where a cut stops: the offset `at`, or where it is inside of strings, the offset at which the outermost begins.
-abbrev pub stop_at : ℕ → ℕ → Opens → List Begin → ℕ
-stop_at at outer opens [] = if is_inside opens then outer else at
-stop_at at outer opens (item ∷ items) = stop_at (at + size_of item) (if is_inside opens then outer else at) (after opens item) items
+-- The offset at which a cut into these gaps and tokens stops; where it stops inside of strings, the offset at which the
+-- outermost begins. No string is open behind the `count` of them that end there, and one is open behind any more.
+pub record IsStopPlace (items : List Begin) (at : ℕ) : Type 0 where
+  pub count : ℕ
+  pub within : count ≤ length items
+  pub ends : total (take count items) ≡ at
+  pub outside : is_open_behind items count ≡ false
+  pub inside : (more : ℕ) → count < more → more ≤ length items → is_open_behind items more ≡ true
 
 -- the number of these digits behind those of `number`
 abbrev pub number : ℕ → Text → ℕ
 number so_far [] = so_far
 number so_far (byte ∷ bytes) = number (if byte == underscore then so_far else so_far * 10 + (byte - 48)) bytes
 
--- an integer above the greatest
-abbrev pub is_too_large : Text → Begin → Bool
-is_too_large bytes (Token k.Integer size) = nat_lt 9223372036854775807 (number 0 (take size bytes))
-is_too_large bytes begin = false
+-- the greatest integer
+abbrev pub greatest : ℕ
+greatest = 9223372036854775807
 
--- one of these gaps and tokens is an integer above the greatest and stands at `place`, where the first stands at `at`
-abbrev pub HasTooLarge : ℕ → Text → List Begin → ℕ → Type 0
-HasTooLarge at bytes [] place = ⊥
-HasTooLarge at bytes (item ∷ items) place =
-    ((place ≡ at) × (is_too_large bytes item ≡ true)) ⊎ HasTooLarge (at + size_of item) (drop (size_of item) bytes) items place
-
--- a cut of the source stops so, at this offset
+-- a cut of the source stops so, and this is its place
 abbrev pub StopsAt : Text → Begin → ℕ → Type 0
-StopsAt source stop at = (whole : CutOf source) × (whole.stop ≡ stop) × (at ≡ stop_at 0 0 [] whole.items)
+StopsAt source stop at = (whole : CutOf source) × (whole.stop ≡ stop) × IsStopPlace whole.items at
+
+-- an integer above the greatest stands at this offset in a cut of the source
+abbrev pub HasTooLarge : Text → ℕ → Type 0
+HasTooLarge source at =
+    (whole : CutOf source) × (size : ℕ) × StandsAt whole.items at (Token k.Integer size) × (greatest < number 0 (take size (drop at source)))
 
 -- The source breaks the rule at an offset.
 -- L1: a byte is not UTF-8.
@@ -47,32 +49,18 @@ abbrev pub Breaks : Text → Rule → ℕ → Type 0
 Breaks source L1 at = IsValidUpTo source at
 Breaks source L2 at = StopsAt source Formless at
 Breaks source L3 at = StopsAt source Unclosed at
-Breaks source L4 at = (whole : CutOf source) × HasTooLarge 0 source whole.items at
+Breaks source L4 at = HasTooLarge source at
 Breaks source L5 at = (at ≡ 0) × (1048576 < length source)
 Breaks source rule at = ⊥
-
--- the rules in their order; those of later passes come behind
-abbrev pub order : Rule → ℕ
-order L1 = 1
-order L2 = 2
-order L3 = 3
-order L4 = 4
-order L5 = 5
-order rule = 6
-
--- by place, then by order
-abbrev pub IsBefore : Rule → ℕ → Rule → ℕ → Type 0
-IsBefore rule at rule' at' = (at < at') ⊎ ((at ≡ at') × (order rule ≤ order rule'))
-
--- what is found is the first that holds; nothing is found where none holds
-abbrev pub IsFirst : (Rule → ℕ → Type 0) → Option (Rule × ℕ) → Type 0
-IsFirst Holds None = (rule : Rule) (at : ℕ) → Holds rule at → ⊥
-IsFirst Holds (Some found) = Holds found.0 found.1 × ((rule : Rule) (at : ℕ) → Holds rule at → IsBefore found.0 found.1 rule at)
 
 -- the source breaks none of these rules
 abbrev pub BreaksNone : Text → Type 0
 BreaksNone source = (rule : Rule) (at : ℕ) → Breaks source rule at → ⊥
 
--- the refusal names the first rule that the source breaks, and its place
+-- the refusal names a rule that the source breaks, and its place
+abbrev pub Refuses : Text → Refusal → Type 0
+Refuses source refusal = (at : ℕ) × Breaks source refusal.rule at × (refusal.span ≡ place_at source at)
+
+-- it does, and it precedes each other that does
 abbrev pub IsFirstBroken : Text → Refusal → Type 0
-IsFirstBroken source refusal = (at : ℕ) × IsFirst (Breaks source) (Some (refusal.rule, at)) × (refusal.span ≡ place_at source at)
+IsFirstBroken source refusal = Refuses source refusal × ((other : Refusal) → Refuses source other → (other ≡ refusal) ⊎ Precedes refusal other)

@@ -1,15 +1,17 @@
--- The pieces of a string: which piece begins at a byte, where the pieces end, and what text they stand for.
-use Rattle.std.specs.Prelude.{◌≤◌, ℕ, zero, suc, ◌+◌, ◌-◌, ◌*◌, Bool, ◌&&◌, ◌||◌, if◌then◌else◌, ◌==◌, nat_le, nat_lt, min, [], ◌∷◌, ◌++◌, take, drop, slice_index, codes}
+-- The pieces of a string: the bytes of each, and the text that it stands for.
+use Rattle.std.specs.Prelude.{◌≡◌, ◌≤◌, ◌⊎◌, ℕ, ◌+◌, ◌-◌, ◌*◌, Bool, true, not, ◌&&◌, ◌||◌, if◌then◌else◌, ◌==◌, nat_le, nat_lt, List, [], ◌∷◌, ◌++◌, length, codes}
 use Rattle.std.specs.Char.{is_ascii_digit, encode_utf8}
-use Rattle.std.specs.List.{prefix_len, list_any}
+use Rattle.std.specs.List.{list_all, list_any}
 use Rattle.sw_lex.specs.declared.bytes.Class.TheVariants as class
-use Rattle.sw_lex.specs.declared.strings.Piece.{Piece}
-use Rattle.sw_lex.specs.declared.strings.Piece.TheVariants.{Plain, Quote, Open, NoForm, LineEnd}
-use Rattle.sw_lex.specs.declared.strings.Strand.{Strand}
-use Rattle.sw_lex.specs.declared.strings.Strand.TheVariants as strand
-use Rattle.sw_lex.specs.Bytes.{Text, is_in, tab, line_feed, carriage_return, quote, left_paren, backslash}
+use Rattle.sw_lex.specs.Bytes.{Text, is_in, tab, line_feed, carriage_return, quote, left_brace, right_brace, backslash}
 
 -- ---- one piece
+
+-- a byte of a character other than `"`, `\`, CR and LF, where the first `good` bytes from it on are characters
+abbrev pub is_plain : ℕ → ℕ → Bool
+is_plain good byte =
+    not (byte == quote) && not (byte == backslash) && not (byte == carriage_return) && not (byte == line_feed)
+    && (nat_lt byte 128 || nat_lt 0 good)
 
 -- the letters of the escapes `\n`, `\r`, `\t`, `\0`, `\"`, `\'` and `\\`
 abbrev pub is_escape : ℕ → Bool
@@ -28,98 +30,56 @@ escaped letter =
 abbrev pub hex_digit : ℕ → ℕ
 hex_digit byte = if is_ascii_digit byte then byte - 48 else (if nat_le byte 70 then byte - 55 else byte - 87)
 
--- The number whose digits are those of `number`, then these. Above the scalar values it is only known to be above them.
+-- the number whose digits are those of `number`, then these
 abbrev pub hex_number : ℕ → Text → ℕ
 hex_number number [] = number
-hex_number number (byte ∷ bytes) = hex_number (min number 1114112 * 16 + hex_digit byte) bytes
+hex_number number (byte ∷ bytes) = hex_number (number * 16 + hex_digit byte) bytes
 
 -- a Unicode scalar value: up to D7FF, or from E000 to 10FFFF
 abbrev pub is_scalar : ℕ → Bool
 is_scalar number = nat_lt number 55296 || (nat_le 57344 number && nat_lt number 1114112)
 
--- how many hexadecimal digits a text begins with
-abbrev pub hex_len : Text → ℕ
-hex_len bytes = prefix_len (is_in class.Hex) bytes
+-- a byte of a character stands for itself
+abbrev pub IsCharacter : ℕ → Text → Text → Type 0
+IsCharacter good bytes text = (byte : ℕ) × (bytes ≡ byte ∷ []) × (text ≡ byte ∷ []) × (is_plain good byte ≡ true)
 
--- the piece whose first three bytes are `\u{`, by the bytes behind them
-abbrev pub unicode : Text → Piece
-unicode bytes =
-    if (nat_le 1 (hex_len bytes) && nat_le (hex_len bytes) 8)
-    && (slice_index bytes (hex_len bytes) == 125 && is_scalar (hex_number 0 (take (hex_len bytes) bytes)))
-    then Plain (hex_len bytes + 4) else NoForm
+-- `\` and a letter
+abbrev pub IsEscape : Text → Text → Type 0
+IsEscape bytes text = (letter : ℕ) × (bytes ≡ backslash ∷ letter ∷ []) × (text ≡ escaped letter ∷ []) × (is_escape letter ≡ true)
 
--- the piece whose first byte is `\`, by the bytes behind it
-abbrev pub escape : Text → Piece
-escape bytes =
-    if slice_index bytes 0 == left_paren then Open
-    else (if is_escape (slice_index bytes 0) then Plain 2
-    else (if slice_index bytes 0 == 117 && slice_index bytes 1 == 123 then unicode (drop 2 bytes)
-    else NoForm))
+-- `\u{H}` with 1 to 8 hexadecimal digits that name a Unicode scalar value
+abbrev pub IsScalar : Text → Text → Type 0
+IsScalar bytes text =
+    (digits : Text)
+    × (bytes ≡ backslash ∷ 117 ∷ left_brace ∷ (digits ++ right_brace ∷ []))
+    × (text ≡ encode_utf8 (hex_number 0 digits))
+    × (list_all (is_in class.Hex) digits ≡ true)
+    × (1 ≤ length digits)
+    × (length digits ≤ 8)
+    × (is_scalar (hex_number 0 digits) ≡ true)
 
--- The piece that begins here, of which a plain one has so many bytes. The first `good` bytes are characters; a byte of
--- 128 and above is part of a character there, and nowhere else.
-abbrev pub piece : ℕ → Text → Piece
-piece good [] = LineEnd
-piece good (byte ∷ bytes) =
-    if byte == quote then Quote
-    else (if byte == line_feed then LineEnd
-    else (if byte == carriage_return then NoForm
-    else (if byte == backslash then escape bytes
-    else (if nat_le 128 byte && good == 0 then NoForm
-    else Plain 1))))
+-- these bytes are one piece, which stands for the text
+abbrev pub IsPiece : ℕ → Text → Text → Type 0
+IsPiece good bytes text = IsCharacter good bytes text ⊎ IsEscape bytes text ⊎ IsScalar bytes text
 
--- ---- the pieces up to the closing quote, up to `\(`, or up to where the string goes wrong
+-- ---- several pieces
 
--- what the string is by its next piece, behind so many bytes; `go` tells it behind a plain piece of so many bytes
-abbrev pub after_piece : Piece → ℕ → (ℕ → Strand) → Strand
-after_piece (Plain size) before go = go size
-after_piece Quote before go = strand.Closed (before + 1)
-after_piece Open before go = strand.Opened (before + 2)
-after_piece NoForm before go = strand.Formless
-after_piece LineEnd before go = strand.Unclosed
+-- the bytes of a piece, and the text that it stands for
+pub record Part : Type 0 where
+  pub bytes : Text
+  pub text : Text
 
--- The pieces from here on, where `before` bytes of the string stand before, the first `good` bytes are characters, and
--- the first `left` bytes belong to the piece before.
-abbrev pub pieces : ℕ → ℕ → ℕ → Text → Strand
-pieces left before good [] = strand.Unclosed
-pieces (suc left) before good (byte ∷ bytes) = pieces left (before + 1) (good - 1) bytes
-pieces zero before good (byte ∷ bytes) = after_piece (piece good (byte ∷ bytes)) before (λ size. pieces (size - 1) (before + 1) (good - 1) bytes)
+-- each is a piece
+abbrev pub ArePieces : ℕ → List Part → Type 0
+ArePieces good [] = Unit {0}
+ArePieces good (part ∷ parts) = IsPiece good part.bytes part.text × ArePieces (good - length part.bytes) parts
 
--- ---- the text of a string
+-- all their bytes
+abbrev pub bytes_of : List Part → Text
+bytes_of [] = []
+bytes_of (part ∷ parts) = part.bytes ++ bytes_of parts
 
--- the UTF-8 bytes of a scalar value
-abbrev pub scalar_text : ℕ → Text
-scalar_text number = if is_scalar number then encode_utf8 number else []
-
--- the bytes that the plain piece stands for which begins here
-abbrev pub spoken : Text → Text
-spoken bytes =
-    if slice_index bytes 0 == backslash then (if slice_index bytes 1 == 117 then scalar_text (hex_number 0 (take (hex_len (drop 3 bytes)) (drop 3 bytes))) else escaped (slice_index bytes 1) ∷ [])
-    else slice_index bytes 0 ∷ []
-
--- how many bytes that piece has
-abbrev pub spoken_len : Text → ℕ
-spoken_len bytes = if slice_index bytes 0 == backslash then (if slice_index bytes 1 == 117 then hex_len (drop 3 bytes) + 4 else 2) else 1
-
--- the text that plain pieces stand for, where the first `left` bytes belong to the piece before
-abbrev pub decoded : ℕ → Text → Text
-decoded left [] = []
-decoded (suc left) (byte ∷ bytes) = decoded left bytes
-decoded zero (byte ∷ bytes) = spoken (byte ∷ bytes) ++ decoded (spoken_len (byte ∷ bytes) - 1) bytes
-
--- ---- bounds
-
--- the piece has at least one byte, and no more than these
-abbrev pub IsPieceWithin : Piece → ℕ → Type 0
-IsPieceWithin (Plain size) len = (1 ≤ size) × (size ≤ len)
-IsPieceWithin Quote len = 1 ≤ len
-IsPieceWithin Open len = 2 ≤ len
-IsPieceWithin NoForm len = Unit {0}
-IsPieceWithin LineEnd len = Unit {0}
-
--- the string has at least one byte, and no more than these
-abbrev pub IsStrandWithin : Strand → ℕ → Type 0
-IsStrandWithin (strand.Closed size) len = (1 ≤ size) × (size ≤ len)
-IsStrandWithin (strand.Opened size) len = (1 ≤ size) × (size ≤ len)
-IsStrandWithin strand.Formless len = Unit {0}
-IsStrandWithin strand.Unclosed len = Unit {0}
+-- the text that they stand for
+abbrev pub text_of : List Part → Text
+text_of [] = []
+text_of (part ∷ parts) = part.text ++ text_of parts

@@ -1,11 +1,9 @@
 -- The reserved words and the marks, and which of them a text is or begins with.
-use Rattle.std.specs.Prelude.{◌≡◌, Bool, true, ◌&&◌, if◌then◌else◌, nat_lt, List, [], ◌∷◌, take, length, codes}
+use Rattle.std.specs.Prelude.{◌≡◌, ◌⊎◌, Bool, if◌then◌else◌, List, [], ◌∷◌, take, length, codes}
 use Rattle.std.specs.Bool.{nat_eq}
 use lib.Pointwise.{pointwise}
 use Rattle.sw_lex.specs.declared.token.TokenKind.{TokenKind}
 use Rattle.sw_lex.specs.declared.token.TokenKind.TheVariants as k
-use Rattle.sw_lex.specs.declared.forms.Begin.{Begin}
-use Rattle.sw_lex.specs.declared.forms.Begin.TheVariants.{Token, Formless}
 use Rattle.sw_lex.specs.Bytes.{Text}
 
 abbrev pub Table : Type 0
@@ -63,7 +61,7 @@ words =
     ∷ (codes "while", k.While)
     ∷ []
 
--- the marks, the longest first
+-- the marks
 unfoldable pub marks : Table
 marks =
     (codes "..<", k.HalfOpenRange)
@@ -117,18 +115,7 @@ kind_of_word text = kind_in words text
 abbrev pub begins_with : Text → Text → Bool
 begins_with mark bytes = is_same_text (take (length mark) bytes) mark
 
--- the first mark of the table that the bytes begin with
-abbrev pub first_mark : Table → Text → Begin
-first_mark [] bytes = Formless
-first_mark (entry ∷ table) bytes = if begins_with entry.0 bytes then Token entry.1 (length entry.0) else first_mark table bytes
-
-abbrev pub mark : Text → Begin
-mark bytes = first_mark marks bytes
-
--- no text of the table is empty
-abbrev pub has_no_empty : Table → Bool
-has_no_empty [] = true
-has_no_empty (entry ∷ table) = nat_lt 0 (length entry.0) && has_no_empty table
-
-abbrev pub IsTable : Table → Type 0
-IsTable table = has_no_empty table ≡ true
+-- the text stands in the table, and is of this kind there
+abbrev pub IsListed : Table → Text → TokenKind → Type 0
+IsListed [] text kind = ⊥
+IsListed (entry ∷ table) text kind = ((entry.0 ≡ text) × (entry.1 ≡ kind)) ⊎ IsListed table text kind

@@ -8,9 +8,9 @@ use Rattle.sw_lex.specs.declared.token.Token.{Token as SourceToken}
 use Rattle.sw_lex.specs.declared.forms.Begin.{Begin}
 use Rattle.sw_lex.specs.declared.forms.Begin.TheVariants.{End, Gap, Token}
 use Rattle.sw_lex.specs.declared.telling.Here.{Here}
-use Rattle.sw_lex.specs.Bytes.{Text, is_in, line_feed}
-use Rattle.sw_lex.specs.Strings.{decoded}
-use Rattle.sw_lex.specs.Forms.{size_of}
+use Rattle.sw_lex.specs.Bytes.{Text, is_in, line_feed, quote, right_paren}
+use Rattle.sw_lex.specs.Strings.{Part, ArePieces, bytes_of, text_of}
+use Rattle.sw_lex.specs.Forms.{opening, size_of}
 use Rattle.sw_lex.specs.Cut.{CutOf}
 
 -- ---- places
@@ -40,17 +40,18 @@ end_place source =
 
 -- ---- texts
 
--- a string's pieces without the first byte and the last so many
-abbrev pub within : ℕ → Text → Text
-within marks bytes = take (length bytes - marks - 1) (drop 1 bytes)
+-- what the pieces stand for between a string's first byte and what closes it
+abbrev pub StandFor : ℕ → Text → ℕ → Text → Text → Type 0
+StandFor mark closing good bytes text =
+    (parts : List Part) × (bytes ≡ mark ∷ (bytes_of parts ++ closing)) × ArePieces (good - 1) parts × (text ≡ text_of parts)
 
--- what the pieces of a string stand for, without its marks `"`, `\(` and `)`; of another token its bytes
-abbrev pub text_of : TokenKind → Text → Text
-text_of k.StringWhole bytes = decoded 0 (within 1 bytes)
-text_of k.StringStart bytes = decoded 0 (within 2 bytes)
-text_of k.StringMiddle bytes = decoded 0 (within 2 bytes)
-text_of k.StringLast bytes = decoded 0 (within 1 bytes)
-text_of kind bytes = bytes
+-- the text of a token with these bytes: of a string what its pieces stand for, of any other its bytes
+abbrev pub IsTextOf : TokenKind → ℕ → Text → Text → Type 0
+IsTextOf k.StringWhole good bytes text = StandFor quote (quote ∷ []) good bytes text
+IsTextOf k.StringStart good bytes text = StandFor quote opening good bytes text
+IsTextOf k.StringMiddle good bytes text = StandFor right_paren opening good bytes text
+IsTextOf k.StringLast good bytes text = StandFor right_paren (quote ∷ []) good bytes text
+IsTextOf kind good bytes text = text ≡ bytes
 
 -- ---- what a token takes from what stands before it
 
@@ -78,18 +79,15 @@ token_at place here kind text = record {
 
 -- ---- the tokens
 
--- the token that begins with these bytes, if one does
-abbrev pub said : Here → Text → Begin → List SourceToken
-said here bytes (Token kind size) = token_at here.place here kind (text_of kind (take size bytes)) ∷ []
-said here bytes begin = []
-
 -- the tokens among these gaps and tokens, and one for the end of the source at its place
-abbrev pub told : Span → Here → Text → List Begin → List SourceToken
-told end here bytes [] = token_at end here k.End [] ∷ []
-told end here bytes (item ∷ items) = said here bytes item ++ told end (beyond here bytes item) (drop (size_of item) bytes) items
-
-abbrev pub tokens_of : Text → List Begin → List SourceToken
-tokens_of source items = told (end_place source) start source items
+abbrev pub AreTokens : Span → Here → ℕ → Text → List Begin → List SourceToken → Type 0
+AreTokens end here good bytes [] tokens = tokens ≡ token_at end here k.End [] ∷ []
+AreTokens end here good bytes (Token kind size ∷ items) tokens =
+    (text : Text) × (later : List SourceToken)
+    × (tokens ≡ token_at here.place here kind text ∷ later)
+    × IsTextOf kind good (take size bytes) text
+    × AreTokens end (beyond here bytes (Token kind size)) (good - size) (drop size bytes) items later
+AreTokens end here good bytes (item ∷ items) tokens = AreTokens end (beyond here bytes item) (good - size_of item) (drop (size_of item) bytes) items tokens
 
 -- the last token, and no other, stands for the end of the source, and has no text
 abbrev pub EndsOnce : List SourceToken → Type 0
@@ -101,4 +99,4 @@ EndsOnce (token ∷ next ∷ tokens) = (token.kind ≢ k.End) × EndsOnce (next 
 pub record CutsInto (source : Text) (tokens : List SourceToken) : Type 0 where
   pub whole : CutOf source
   pub to_end : whole.stop ≡ End
-  pub same : tokens ≡ tokens_of source whole.items
+  pub same : AreTokens (end_place source) start whole.good source whole.items tokens

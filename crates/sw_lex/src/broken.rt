@@ -35,7 +35,7 @@ pub fn good_front(source: &[u8]) -> usize
 /// Where a cut stops, or where the outermost string begins that it stops in.
 fn stop_at(alloc: Global, items: &[Begin]) -> Result<usize, NoMemory>
     requires { total items.now < 2 ^ 63 }
-    ensures value { IfOk result (λ at. at ≡ spec.stop_at 0 0 [] items.now) }
+    ensures value { IfOk result (λ at. at ≡ finding.stop_at 0 0 [] items.now) }
     ensures within { IfOk result (λ at. at ≤ total items.now) }
 {
     let mut at = 0;
@@ -53,7 +53,7 @@ fn stop_at(alloc: Global, items: &[Begin]) -> Result<usize, NoMemory>
 
 /// Whether digits stand for a number above the greatest.
 fn is_above_greatest(digits: &[u8]) -> bool
-    ensures { result ≡ nat_lt 9223372036854775807 (spec.number 0 digits.now) }
+    ensures { result ≡ nat_lt spec.greatest (spec.number 0 digits.now) }
 {
     let mut number: u64 = 0;
     for byte in digits {
@@ -70,7 +70,7 @@ fn is_above_greatest(digits: &[u8]) -> bool
 
 fn is_too_large(bytes: &[u8], item: Begin) -> bool
     requires { size_of item ≤ length bytes.now }
-    ensures { result ≡ spec.is_too_large bytes.now item }
+    ensures { result ≡ finding.is_too_large bytes.now item }
 {
     match item {
         Begin::Token(TokenKind::Integer, size) => is_above_greatest(&bytes[..size]),
@@ -94,22 +94,9 @@ fn large_at(source: &[u8], items: &[Begin]) -> Option<usize>
     None
 }
 
-fn order(rule: Rule) -> u8
-    ensures { result ≡ spec.order rule }
-{
-    match rule {
-        Rule::L1 => 1,
-        Rule::L2 => 2,
-        Rule::L3 => 3,
-        Rule::L4 => 4,
-        Rule::L5 => 5,
-        _ => 6,
-    }
-}
-
 fn is_before(a: (Rule, usize), b: (Rule, usize)) -> bool
-    ensures first { result ≡ true → spec.IsBefore a.0 a.1 b.0 b.1 }
-    ensures second { result ≡ false → spec.IsBefore b.0 b.1 a.0 a.1 }
+    ensures first { result ≡ true → finding.IsBefore a.0 a.1 b.0 b.1 }
+    ensures second { result ≡ false → finding.IsBefore b.0 b.1 a.0 a.1 }
 {
     if a.1 < b.1 {
         return true;
@@ -117,11 +104,11 @@ fn is_before(a: (Rule, usize), b: (Rule, usize)) -> bool
     if b.1 < a.1 {
         return false;
     }
-    order(a.0) <= order(b.0)
+    !b.0.stands_before(&a.0)
 }
 
 fn earlier(a: Found, b: Found) -> Found
-    ensures first { spec.IsFirst (λ rule at. (a ≡ Some (rule, at)) ⊎ (b ≡ Some (rule, at))) result }
+    ensures first { finding.IsFirst (λ rule at. (a ≡ Some (rule, at)) ⊎ (b ≡ Some (rule, at))) result }
     ensures within { (n : ℕ) → IfSome a (λ x. x.1 ≤ n) → IfSome b (λ x. x.1 ≤ n)
         → IfSome result (λ x. x.1 ≤ n) }
 {
@@ -197,7 +184,7 @@ pub fn first_broken(
     requires cut { Cut [] good source.now items.now stop }
     requires within { total items.now ≤ length source.now }
     requires stop { IsStop stop }
-    ensures first { IfOk result (λ found. spec.IsFirst (spec.Breaks source.now) found) }
+    ensures first { IfOk result (λ found. finding.IsFirst (spec.Breaks source.now) found) }
     ensures within { IfOk result (λ found. IfSome found (λ x. x.1 ≤ length source.now)) }
     ensures near { IfOk result (λ found. IfSome found (λ x. x.1 ≤ 1048576)) }
     ensures short { IfOk result (λ found. found ≡ None → length source.now ≤ 1048576) }

@@ -3,8 +3,8 @@
 ghost use Rattle.std.specs.Prelude.{◌≡◌, ◌≤◌, ℕ, ◌-◌, Some, IfSome, drop, length, slice_index, true};
 ghost use Rattle.std.specs.List.{prefix_len};
 ghost use Rattle.sw_lex.specs.Bytes.{is_in};
-ghost use Rattle.sw_lex.specs.Strings.{pieces};
 ghost use Rattle.sw_lex.specs.Forms as spec;
+ghost use Rattle.sw_lex.specs.Reading as reading;
 
 use crate::bytes::{Class, byte_at, has_line_end, is_in, run_len};
 use crate::strings::{Strand, pieces};
@@ -29,7 +29,7 @@ pub enum Begin {
 /// The number of bytes of the comment that begins a text, if it is closed.
 fn comment_len(bytes: &[u8]) -> Option<usize>
     requires { 2 ≤ length bytes.now }
-    ensures value { result ≡ spec.comment_len 0 1 2 (drop 2 bytes.now) }
+    ensures value { result ≡ reading.comment_len 0 1 2 (drop 2 bytes.now) }
     ensures within { IfSome result (λ size. (1 ≤ size) × (size ≤ length bytes.now)) }
 {
     let mut depth: usize = 1;
@@ -54,8 +54,8 @@ fn comment_len(bytes: &[u8]) -> Option<usize>
 /// The comment that begins with `/*`, inside of a string or not.
 fn block(bytes: &[u8], inside: bool) -> Begin
     requires { 2 ≤ length bytes.now }
-    ensures value { result ≡ spec.block inside bytes.now (spec.comment_len 0 1 2 (drop 2 bytes.now)) }
-    ensures within { spec.IsWithin result (length bytes.now) }
+    ensures value { result ≡ reading.block inside bytes.now (reading.comment_len 0 1 2 (drop 2 bytes.now)) }
+    ensures within { reading.IsWithin result (length bytes.now) }
 {
     match comment_len(bytes) {
         None => Begin::Unclosed,
@@ -72,8 +72,8 @@ fn block(bytes: &[u8], inside: bool) -> Begin
 /// The name or reserved word that begins a text.
 fn named(bytes: &[u8]) -> Begin
     requires { is_in Class.NameStart (slice_index bytes.now 0) ≡ true }
-    ensures value { result ≡ spec.named bytes.now (prefix_len (is_in Class.Name) bytes.now) }
-    ensures within { spec.IsWithin result (length bytes.now) }
+    ensures value { result ≡ reading.named bytes.now (prefix_len (is_in Class.Name) bytes.now) }
+    ensures within { reading.IsWithin result (length bytes.now) }
 {
     let size = run_len(Class::Name, bytes);
     Begin::Token(kind_of_word(&bytes[..size]), size)
@@ -82,8 +82,8 @@ fn named(bytes: &[u8]) -> Begin
 /// The string that begins a text with its quote.
 fn quoted(bytes: &[u8], good: usize) -> Begin
     requires { 1 ≤ length bytes.now }
-    ensures value { result ≡ spec.quoted (pieces 0 1 (good - 1) (drop 1 bytes.now)) }
-    ensures within { spec.IsWithin result (length bytes.now) }
+    ensures value { result ≡ reading.quoted (reading.pieces 0 1 (good - 1) (drop 1 bytes.now)) }
+    ensures within { reading.IsWithin result (length bytes.now) }
 {
     match pieces(bytes, good.saturating_sub(1)) {
         Strand::Closed(size) => Begin::Token(TokenKind::StringWhole, size),
@@ -96,8 +96,8 @@ fn quoted(bytes: &[u8], good: usize) -> Begin
 /// The string that goes on with the `)` that begins a text.
 fn resumed(bytes: &[u8], good: usize) -> Begin
     requires { 1 ≤ length bytes.now }
-    ensures value { result ≡ spec.resumed (pieces 0 1 (good - 1) (drop 1 bytes.now)) }
-    ensures within { spec.IsWithin result (length bytes.now) }
+    ensures value { result ≡ reading.resumed (reading.pieces 0 1 (good - 1) (drop 1 bytes.now)) }
+    ensures within { reading.IsWithin result (length bytes.now) }
 {
     match pieces(bytes, good.saturating_sub(1)) {
         Strand::Closed(size) => Begin::Token(TokenKind::StringLast, size),
@@ -115,10 +115,10 @@ fn has_three_quotes(bytes: &[u8]) -> bool
 
 /// What begins a text, inside of a string or not, where `)` closes a `\(` or not, and the first `good`
 /// bytes are characters.
-#[tactic(auto, unfolding(crate::specs::Forms::begins))]
+#[tactic(auto, unfolding(crate::specs::Reading::begins))]
 pub fn begins(bytes: &[u8], inside: bool, closes: bool, good: usize) -> Begin
-    ensures value { result ≡ spec.begins inside closes good bytes.now }
-    ensures within { spec.IsWithin result (length bytes.now) }
+    ensures value { result ≡ reading.begins inside closes good bytes.now }
+    ensures within { reading.IsWithin result (length bytes.now) }
 {
     if bytes.is_empty() {
         return if inside { Begin::Unclosed } else { Begin::End };
@@ -152,7 +152,7 @@ pub fn begins(bytes: &[u8], inside: bool, closes: bool, good: usize) -> Begin
 /// How many bytes it has.
 pub fn size_of(begin: Begin) -> usize
     ensures value { result ≡ spec.size_of begin }
-    ensures within { (len : ℕ) → spec.IsWithin begin len → result ≤ len }
+    ensures within { (len : ℕ) → reading.IsWithin begin len → result ≤ len }
 {
     match begin {
         Begin::Gap(size) => size,

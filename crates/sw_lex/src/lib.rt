@@ -1,7 +1,10 @@
 //! Cuts a source into tokens, or names the first rule that it breaks before it is parsed.
 //!
-//! `lex` is the one call. The definitions that its contract cites are in `specs/`: what begins at a
-//! place (`Forms`), the cut of a source (`Cut`), its tokens (`Tokens`) and its broken rules (`Rules`).
+//! `lex` is the one call. The definitions that its contract cites are in `specs/`: the pieces of a string
+//! (`Strings`), comments (`Comments`), what begins at a place (`Forms`), the cut of a source (`Cut`), its
+//! tokens (`Tokens`) and its broken rules (`Rules`). They are relations, and know nothing of the code.
+//! `Reading`, `Telling` and `Finding` follow the code, for the contracts of private functions alone; lemmas
+//! in `proofs/` show that both say the same.
 #![tactic(auto)]
 
 mod broken;

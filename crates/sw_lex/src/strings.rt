@@ -1,7 +1,8 @@
 //! The pieces of strings: where they end, and what they stand for.
 
-ghost use Rattle.std.specs.Prelude.{◌≡◌, ◌≤◌, ◌<◌, ◌+◌, ◌^◌, ◌++◌, IfOk, OnOk, drop, length};
+ghost use Rattle.std.specs.Prelude.{◌≡◌, ◌≤◌, ◌<◌, ◌+◌, ◌^◌, ◌++◌, IfOk, OnOk, drop, length, min};
 ghost use Rattle.sw_lex.specs.Strings as spec;
+ghost use Rattle.sw_lex.specs.Reading as reading;
 
 use crate::bytes::{Class, byte_at, run_len};
 use std::alloc::Global;
@@ -47,13 +48,13 @@ fn hex_digit(byte: u8) -> u8
     }
 }
 
-/// The number of hexadecimal digits. Above the scalar values it is only known to be above them.
+/// The number of hexadecimal digits, or the first above the scalar values where that is less.
 fn hex_number(digits: &[u8]) -> u32
-    ensures { result ≡ spec.hex_number 0 digits.now }
+    ensures { result ≡ min (spec.hex_number 0 digits.now) 1114112 }
 {
     let mut number: u32 = 0;
     for digit in digits {
-        number = number.min(1114112) * 16 + hex_digit(*digit) as u32;
+        number = (number * 16 + hex_digit(*digit) as u32).min(1114112);
     }
     number
 }
@@ -65,9 +66,10 @@ fn is_scalar(number: u32) -> bool
 }
 
 /// The piece whose first three bytes are `\u{`, by the bytes behind them.
+#[tactic(auto, using(crate::proofs::HexLemmas::scalar_least))]
 fn unicode(bytes: &[u8]) -> Piece
-    ensures value { result ≡ spec.unicode bytes.now }
-    ensures within { spec.IsPieceWithin result (3 + length bytes.now) }
+    ensures value { result ≡ reading.unicode bytes.now }
+    ensures within { reading.IsPieceWithin result (3 + length bytes.now) }
 {
     let digits = run_len(Class::Hex, bytes);
     if digits < 1 {
@@ -88,8 +90,8 @@ fn unicode(bytes: &[u8]) -> Piece
 
 /// The piece whose first byte is `\`, by the bytes behind it.
 fn escape(bytes: &[u8]) -> Piece
-    ensures value { result ≡ spec.escape bytes.now }
-    ensures within { spec.IsPieceWithin result (1 + length bytes.now) }
+    ensures value { result ≡ reading.escape bytes.now }
+    ensures within { reading.IsPieceWithin result (1 + length bytes.now) }
 {
     match byte_at(bytes, 0) {
         b'(' => Piece::Open,
@@ -100,8 +102,8 @@ fn escape(bytes: &[u8]) -> Piece
 }
 
 fn piece_at(bytes: &[u8], good: usize) -> Piece
-    ensures value { result ≡ spec.piece good bytes.now }
-    ensures within { spec.IsPieceWithin result (length bytes.now) }
+    ensures value { result ≡ reading.piece good bytes.now }
+    ensures within { reading.IsPieceWithin result (length bytes.now) }
 {
     match bytes {
         [] => Piece::LineEnd,
@@ -119,8 +121,8 @@ fn piece_at(bytes: &[u8], good: usize) -> Piece
 /// The pieces behind the first byte, where `good` bytes from there on are characters.
 pub fn pieces(bytes: &[u8], good: usize) -> Strand
     requires { 1 ≤ length bytes.now }
-    ensures value { result ≡ spec.pieces 0 1 good (drop 1 bytes.now) }
-    ensures within { spec.IsStrandWithin result (length bytes.now) }
+    ensures value { result ≡ reading.pieces 0 1 good (drop 1 bytes.now) }
+    ensures within { reading.IsStrandWithin result (length bytes.now) }
 {
     let mut at = 1;
     'pieces: loop {
@@ -147,7 +149,7 @@ fn escaped(letter: u8) -> u8
 }
 
 fn push_scalar(out: &mut Vec<u8>, number: u32) -> Result<(), NoMemory>
-    ensures { OnOk result (out.new.items ≡ out.old.items ++ spec.scalar_text number) }
+    ensures { OnOk result (out.new.items ≡ out.old.items ++ reading.scalar_text number) }
 {
     if !is_scalar(number) {
         return Ok(());
@@ -170,8 +172,9 @@ fn from_third(bytes: &[u8]) -> &[u8]
 }
 
 /// Adds what the plain piece stands for that begins a text.
+#[tactic(auto, using(crate::proofs::HexLemmas::scalar_text_least))]
 fn push_spoken(out: &mut Vec<u8>, bytes: &[u8]) -> Result<(), NoMemory>
-    ensures { OnOk result (out.new.items ≡ out.old.items ++ spec.spoken bytes.now) }
+    ensures { OnOk result (out.new.items ≡ out.old.items ++ reading.spoken bytes.now) }
 {
     if byte_at(bytes, 0) == b'\\' {
         if byte_at(bytes, 1) == b'u' {
@@ -187,7 +190,7 @@ fn push_spoken(out: &mut Vec<u8>, bytes: &[u8]) -> Result<(), NoMemory>
 
 /// How many bytes that piece has.
 fn spoken_len(bytes: &[u8]) -> usize
-    ensures value { result ≡ spec.spoken_len bytes.now }
+    ensures value { result ≡ reading.spoken_len bytes.now }
     ensures some { 1 ≤ result }
     ensures near { result ≤ length bytes.now + 4 }
 {
@@ -203,7 +206,7 @@ fn spoken_len(bytes: &[u8]) -> usize
 /// The text that plain pieces stand for.
 pub fn decoded(alloc: Global, bytes: &[u8]) -> Result<Text, NoMemory>
     requires { length bytes.now < 2 ^ 62 }
-    ensures { IfOk result (λ text. text ≡ spec.decoded 0 bytes.now) }
+    ensures { IfOk result (λ text. text ≡ reading.decoded 0 bytes.now) }
 {
     let mut out = Vec::new(alloc);
     let mut at = 0;

@@ -1,8 +1,8 @@
 //! The reserved words and the marks.
 
 ghost use Rattle.std.specs.Prelude.{◌≡◌, ◌≤◌, length, map, true};
-ghost use Rattle.sw_lex.specs.Tables.{IsTable, begins_with, first_mark, is_same_text, kind_in, kind_of_word, mark};
-ghost use Rattle.sw_lex.specs.Forms.{IsWithin};
+ghost use Rattle.sw_lex.specs.Tables.{begins_with, is_same_text, kind_in, kind_of_word};
+ghost use Rattle.sw_lex.specs.Reading.{IsTable, IsWithin, first_mark, mark};
 
 use crate::forms::Begin;
 use crate::token::TokenKind;

@@ -1,10 +1,11 @@
 //! The tokens of a cut.
 
 ghost use Rattle.std.specs.Prelude.{◌≡◌, ◌≤◌, ◌<◌, ◌+◌, ◌^◌, ◌++◌, IfOk, OnOk, length};
-ghost use Rattle.sw_lex.specs.Strings.{decoded};
+ghost use Rattle.sw_lex.specs.Reading.{decoded};
 ghost use Rattle.sw_lex.specs.Forms.{size_of};
 ghost use Rattle.sw_lex.specs.Cut.{total};
 ghost use Rattle.sw_lex.specs.Tokens as spec;
+ghost use Rattle.sw_lex.specs.Telling as telling;
 
 use crate::bytes::{Class, byte_at, is_in};
 use crate::forms::{Begin, size_of};
@@ -31,7 +32,7 @@ pub struct Here {
 fn inner(alloc: Global, bytes: &[u8], marks: usize) -> Result<Text, NoMemory>
     requires few { marks ≤ 2 }
     requires short { length bytes.now < 2 ^ 62 }
-    ensures { IfOk result (λ text. text ≡ decoded 0 (spec.within marks bytes.now)) }
+    ensures { IfOk result (λ text. text ≡ decoded 0 (telling.within marks bytes.now)) }
 {
     if bytes.len() < marks + 1 {
         return decoded(alloc, &[]);
@@ -41,7 +42,7 @@ fn inner(alloc: Global, bytes: &[u8], marks: usize) -> Result<Text, NoMemory>
 
 fn text_of(alloc: Global, kind: TokenKind, bytes: &[u8]) -> Result<Text, NoMemory>
     requires { length bytes.now < 2 ^ 62 }
-    ensures { IfOk result (λ text. text ≡ spec.text_of kind bytes.now) }
+    ensures { IfOk result (λ text. text ≡ telling.token_text kind bytes.now) }
 {
     match kind {
         TokenKind::StringWhole => inner(alloc, bytes, 1),
@@ -78,7 +79,7 @@ fn tell(
     requires lines { here.place.line + length bytes.now < 2 ^ 32 }
     requires columns { here.place.column + length bytes.now < 2 ^ 32 }
     requires counts { 1 ≤ here.place.column }
-    ensures tokens { OnOk result (tokens.new ≡ tokens.old ++ spec.said here bytes.now item) }
+    ensures tokens { OnOk result (tokens.new ≡ tokens.old ++ telling.said here bytes.now item) }
     ensures here { IfOk result (λ next. next ≡ spec.beyond here bytes.now item) }
     ensures line { IfOk result (λ next. next.place.line ≤ here.place.line + size_of item) }
     ensures column { IfOk result (λ next. next.place.column ≤ here.place.column + size_of item) }
@@ -109,7 +110,7 @@ fn tell(
 pub fn tokens_of(alloc: Global, source: &[u8], items: &[Begin]) -> Result<Items<Token>, NoMemory>
     requires within { total items.now ≤ length source.now }
     requires short { length source.now < 2 ^ 31 }
-    ensures { IfOk result (λ tokens. tokens ≡ spec.tokens_of source.now items.now) }
+    ensures { IfOk result (λ tokens. tokens ≡ telling.tokens_of source.now items.now) }
 {
     let mut tokens = Items::new(alloc);
     let end = end_place(source);

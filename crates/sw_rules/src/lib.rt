@@ -5,8 +5,8 @@
 //! earliest place, and of these the one whose rule stands first in the list [`Rule`].
 #![tactic(auto)]
 
-ghost use Rattle.std.specs.Prelude.{◌≡◌, ◌↔◌, IsTrue, IfOk};
-ghost use Rattle.sw_rules.specs.Rule.{rule_name, rule_pass};
+ghost use Rattle.std.specs.Prelude.{◌≡◌, ◌<◌, ◌↔◌, IsTrue, IfOk};
+ghost use Rattle.sw_rules.specs.Rule.{rule_name, rule_order, rule_pass};
 ghost use Rattle.sw_rules.specs.Refusal.{Precedes, line_text};
 
 use std::alloc::Global;
@@ -308,6 +308,13 @@ impl Rule {
             Rule::I1 | Rule::I2 | Rule::I13 | Rule::I14 => 7,
         }
     }
+
+    /// Tells whether this rule stands before the other in the list of rules.
+    pub fn stands_before(&self, other: &Rule) -> bool
+        ensures { IsTrue result ↔ rule_order self.now < rule_order other.now }
+    {
+        self < other
+    }
 }
 
 impl fmt::Display for Rule {
@@ -344,7 +351,7 @@ impl Refusal {
         if self.span.column != other.span.column {
             return self.span.column < other.span.column;
         }
-        self.rule < other.rule
+        self.rule.stands_before(&other.rule)
     }
 }
 

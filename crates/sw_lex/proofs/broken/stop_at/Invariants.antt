@@ -1,6 +1,6 @@
 use Rattle.std.proofs.Common.{◌≡◌, ◌≤◌, ◌+◌, drop, []}
 use Rattle.sw_lex.specs.Cut.{total}
-use Rattle.sw_lex.specs.Rules as spec
+use Rattle.sw_lex.specs.Finding as spec
 use Rattle.sw_lex.proofs.broken.stop_at.Given as goal
 
 abbrev pub invariant-loop-item : goal.invariant-loop-item

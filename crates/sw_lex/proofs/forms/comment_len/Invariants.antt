@@ -1,5 +1,5 @@
 use Rattle.std.proofs.Common.{◌≡◌, ◌≤◌, ◌-◌, length, drop}
-use Rattle.sw_lex.specs.Forms.{comment_len}
+use Rattle.sw_lex.specs.Reading.{comment_len}
 use Rattle.sw_lex.proofs.forms.comment_len.Given as goal
 
 -- the comment is still open

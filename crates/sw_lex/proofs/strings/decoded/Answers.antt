@@ -1,6 +1,6 @@
 use Rattle.std.proofs.Common.{arith, ◌≡◌, ◌++◌, drop}
 use Rattle.std.proofs.lemmas.List.{take_rest}
-use Rattle.sw_lex.specs.Strings.{spoken, spoken_len}
+use Rattle.sw_lex.specs.Reading.{spoken, spoken_len}
 use Rattle.sw_lex.proofs.StringLemmas.{decoded_step}
 use Rattle.sw_lex.proofs.strings.decoded.Goals as goal
 

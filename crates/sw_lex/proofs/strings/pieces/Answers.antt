@@ -1,7 +1,7 @@
 use Rattle.std.proofs.Common.{arith, ◌≡◌, ◌+◌, ◌-◌, drop, sym, ap, ◌∙◌}
 use Rattle.std.proofs.lemmas.List.{take_rest, drop-drop}
 use Rattle.sw_lex.specs.declared.strings.Piece.TheVariants.{Plain}
-use Rattle.sw_lex.specs.Strings.{piece, pieces}
+use Rattle.sw_lex.specs.Reading.{piece, pieces}
 use Rattle.sw_lex.proofs.StringLemmas.{pieces-plain}
 use Rattle.sw_lex.proofs.strings.pieces.Goals as goal
 

@@ -1,5 +1,5 @@
 use Rattle.std.proofs.Common.{◌≡◌, ◌≤◌, ◌-◌, length, drop}
-use Rattle.sw_lex.specs.Strings as spec
+use Rattle.sw_lex.specs.Reading as spec
 use Rattle.sw_lex.proofs.strings.pieces.Given as goal
 
 -- the pieces so far are plain
