@@ -1,0 +1,427 @@
+-- The reader reads each text of the grammar, and refuses no token up to which the tokens begin one, where one token ahead decides.
+use Rattle.std.proofs.Common.{◌≡◌, ℕ, zero, suc, ◌≤◌, Bool, true, false, cond, ◌||◌, ◌&&◌, ◌⊎◌, inl, inr, List, [], ◌∷◌, ◌++◌, length, Option, Some, None, refl, sym, ap, ◌∙◌, subst, append_assoc, arith, length-append}
+use Rattle.sw_grammar.specs.Grammar as g
+use Rattle.sw_grammar.specs.Grammar.{Part, Counted, Each, Then, Heads, Derives_by, Begins_by}
+use Rattle.sw_grammar.specs.Reading.{full, stuck, Out, got, bad, spent, ◌>>=◌, at_first, or_if, if_goes, one, turns, null, first, read_by}
+use Rattle.sw_grammar.specs.Deciding.{Apart, cont, Decided}
+use Rattle.sw_grammar.proofs.Starts.{or_false, and_both, not_true, Starts, starts_append, starts_each, starts_D, starts_B, solid, text_begins}
+
+-- ---- rooms
+
+-- Two rooms are compared, or they are not: a number of the one is at most that of the other.
+abbrev pub Fits : Bool → ℕ → ℕ → Type 0
+Fits true m n = m ≤ n
+Fits false m n = Unit {0}
+
+-- room may be lacking: only where they are not compared
+abbrev pub MayLack : Bool → Type 0
+MayLack true = ⊥
+MayLack false = Unit {0}
+
+pub fits_less : (b : Bool) (m n : ℕ) → Fits b (suc m) (suc n) → Fits b m n
+fits_less true m n h = omega (arith, h)
+fits_less false m n h = tt
+
+pub fits_none : (b : Bool) (m : ℕ) → Fits b (suc m) zero → MayLack b
+fits_none true m h = omega (arith, h)
+fits_none false m h = tt
+
+pub fits_same : (b : Bool) (m : ℕ) → Fits b m m
+fits_same true m = omega arith
+fits_same false m = tt
+
+-- ---- tests of the next token
+
+and_second : (a b : Bool) → b ≡ false → (a && b) ≡ false
+and_second true b e = e
+and_second false b e = refl
+
+-- a choice
+pub on_true : {A : Type 0} (P : A → Type 0) (z : Bool) (x y : A) → z ≡ true → P x → P (cond z x y)
+on_true P z x y h p = subst (λ z. P (cond z x y)) (sym h) p
+
+pub on_false : {A : Type 0} (P : A → Type 0) (z : Bool) (x y : A) → z ≡ false → P y → P (cond z x y)
+on_false P z x y h p = subst (λ z. P (cond z x y)) (sym h) p
+
+regroup : {T : Type 0} (u v w rest : List T) → u ≡ v ++ w → u ++ rest ≡ v ++ (w ++ rest)
+regroup u v w rest e = ap (λ l. l ++ rest) e ∙ append_assoc v w rest
+
+pub regrouped : {T : Type 0} (P : List T → Type 0) (u v w rest : List T) → u ≡ v ++ w → P (v ++ (w ++ rest)) → P (u ++ rest)
+regrouped P u v w rest e p = subst P (sym (regroup u v w rest e)) p
+
+head_first : {T : Type 0} (f h : T → Bool) (u rest : List T) → Heads f u → Starts false h u → at_first f (u ++ rest) ≡ true
+head_first f h [] rest hd s = cc
+head_first f h (t ∷ u) rest hd s = hd
+
+-- a nonempty run begins with its first token, whatever follows
+pub at_first_app : {T : Type 0} (f : T → Bool) (u rest : List T) → Starts false f u → at_first f (u ++ rest) ≡ true
+at_first_app f [] rest h = cc
+at_first_app f (t ∷ u) rest h = h
+
+-- what the next part begins with does not go on with this one
+pub stops : {T : Type 0} (f h : T → Bool) (nl : Bool) → Apart f h → (w rest : List T) → Starts nl h w → (nl ≡ true → at_first f rest ≡ false) → at_first f (w ++ rest) ≡ false
+stops f h nl apart [] rest s e = e s
+stops f h nl apart (t ∷ w) rest s e = not_true (f t) (λ k. apart t k s)
+
+pub at_first_or : {T : Type 0} (f h : T → Bool) (rest : List T) → at_first (λ t. f t || h t) rest ≡ false → (at_first f rest ≡ false) × (at_first h rest ≡ false)
+at_first_or f h [] e = (refl, refl)
+at_first_or f h (t ∷ rest) e = or_false (f t) (h t) e
+
+-- an empty first run hands its first test on
+at_first_or_if : {T : Type 0} (b : Bool) (f h : T → Bool) (rest : List T) → at_first (λ t. or_if b (f t) (h t)) rest ≡ false → (at_first f rest ≡ false) × (b ≡ true → at_first h rest ≡ false)
+at_first_or_if b f h [] e = (refl, λ _. refl)
+at_first_or_if true f h (t ∷ rest) e = let p = or_false (f t) (h t) e in (p.0, λ _. p.1)
+at_first_or_if false f h (t ∷ rest) e = (e, λ p. cc)
+
+shorter : {T : Type 0} (f : T → Bool) (v w rest : List T) (k : ℕ) → Starts false f v → length (v ++ (w ++ rest)) ≤ suc k → length (w ++ rest) ≤ k
+shorter f [] w rest k s h = cc
+shorter f (t ∷ v) w rest k s h = omega (arith, h, length-append v (w ++ rest))
+
+longer : {T : Type 0} (f : T → Bool) (v m : List T) → Starts false f v → length (v ++ m) ≤ 0 → ⊥
+longer f [] m s h = cc
+longer f (t ∷ v) m s h = omega (arith, h)
+
+-- ---- the value is read
+
+-- the value and what is left, or room was lacking
+abbrev pub Reads : {T A : Type 0} → Bool → A → ℕ → List T → Out T A → Type 0
+Reads b x e0 rest (got y e r) = (y ≡ x) × (r ≡ rest) × Fits b e0 e
+Reads b x e0 rest (bad full r) = MayLack b
+Reads b x e0 rest (bad stuck r) = ⊥
+Reads b x e0 rest spent = ⊥
+
+pub reads_then : {T A C : Type 0} (b : Bool) (o : Out T A) (x : A) (m0 : ℕ) (mid : List T) (k : A → ℕ → List T → Out T C) (z : C) (e0 : ℕ) (rest : List T)
+    → Reads b x m0 mid o → ((m : ℕ) → Fits b m0 m → Reads b z e0 rest (k x m mid)) → Reads b z e0 rest (o >>= k)
+reads_then b (got y e r) x m0 mid k z e0 rest (ey, er, fe) h = subst (λ y. Reads b z e0 rest (k y e r)) (sym ey) (subst (λ r. Reads b z e0 rest (k x e r)) (sym er) (h e fe))
+reads_then b (bad full r) x m0 mid k z e0 rest p h = p
+reads_then b (bad stuck r) x m0 mid k z e0 rest p h = elim p [ ]
+reads_then b spent x m0 mid k z e0 rest p h = elim p [ ]
+
+-- one part, and a second where it comes
+complete_then : {T A C : Type 0} (b : Bool) (ca fb cb : T → Bool) (p : ℕ → List T → Out T A) (q : ℕ → List T → Out T C) (D : Counted T A) (E : Counted T C) (goes : A → Bool) → Apart ca fb
+    → ((c0 e0 : ℕ) (u : List T) (x : A) (c : ℕ) (rest : List T) → D c0 e0 u x → Fits b c0 c → at_first ca rest ≡ false → Reads b x e0 rest (p c (u ++ rest)))
+    → ((c0 e0 : ℕ) (u : List T) (y : C) (c : ℕ) (rest : List T) → E c0 e0 u y → Fits b c0 c → at_first cb rest ≡ false → Reads b y e0 rest (q c (u ++ rest)))
+    → ((c0 e0 : ℕ) (u : List T) (y : C) → E c0 e0 u y → Starts false fb u)
+    → (c0 e0 : ℕ) (u : List T) (x : A) (y : Option C) (c : ℕ) (rest : List T) → Then D E goes c0 e0 u x y → Fits b c0 c → at_first (λ t. ca t || (fb t || cb t)) rest ≡ false
+    → Reads b (x, y) e0 rest (p c (u ++ rest) >>= (λ x m rest. if_goes (goes x && at_first fb rest) x m rest (q m rest)))
+complete_then {T} {A} {C} b ca fb cb p q D E goes apart hp hq hs c0 e0 u x None c rest d fc st =
+    let s = at_first_or ca (λ t. fb t || cb t) rest st in
+    let go : A → ℕ → List T → Out T (A × Option C) = λ x m rest. if_goes (goes x && at_first fb rest) x m rest (q m rest) in
+    reads_then b (p c (u ++ rest)) x e0 rest go (x, None) e0 rest (hp c0 e0 u x c rest d fc s.0)
+    (λ m fm. subst (λ z. Reads b (x, None) e0 rest (if_goes z x m rest (q m rest))) (sym (and_second (goes x) (at_first fb rest) (at_first_or fb cb rest s.1).0)) (refl, refl, fm))
+complete_then {T} {A} {C} b ca fb cb p q D E goes apart hp hq hs c0 e0 u x (Some y) c rest (v, w, m0, eu, d, is, d') fc st =
+    let s = at_first_or ca (λ t. fb t || cb t) rest st in
+    let go : A → ℕ → List T → Out T (A × Option C) = λ x m rest. if_goes (goes x && at_first fb rest) x m rest (q m rest) in
+    let start = hs m0 e0 w y d' in
+    regrouped (λ l. Reads b (x, Some y) e0 rest (p c l >>= go)) u v w rest eu
+    (reads_then b (p c (v ++ (w ++ rest))) x m0 (w ++ rest) go (x, Some y) e0 rest (hp c0 m0 v x c (w ++ rest) d fc (stops ca fb false apart w rest start (λ n. cc)))
+    (λ m fm. subst (λ z. Reads b (x, Some y) e0 rest (if_goes z x m (w ++ rest) (q m (w ++ rest)))) (sym (and_both (goes x) (at_first fb (w ++ rest)) is (at_first_app fb w rest start)))
+    (reads_then b (q m (w ++ rest)) y e0 rest (λ y e r. got (x, Some y) e r) (x, Some y) e0 rest (hq m0 e0 w y m rest d' fm (at_first_or fb cb rest s.1).1) (λ e fe. (refl, refl, fe)))))
+
+complete_turns : {T A : Type 0} (b : Bool) (f ca : T → Bool) (p : ℕ → List T → Out T A) (D : Counted T A) → Apart ca f
+    → ((c0 e0 : ℕ) (u : List T) (x : A) → D c0 e0 u x → Starts false f u)
+    → ((c0 e0 : ℕ) (u : List T) (x : A) (c : ℕ) (rest : List T) → D c0 e0 u x → Fits b c0 c → at_first ca rest ≡ false → Reads b x e0 rest (p c (u ++ rest)))
+    → (k : ℕ) (xs : List A) (c0 e0 : ℕ) (u : List T) (c : ℕ) (rest : List T) → length (u ++ rest) ≤ k → Each D c0 e0 u xs → Fits b c0 c → at_first f rest ≡ false → at_first ca rest ≡ false
+    → Reads b xs e0 rest (turns f p k c (u ++ rest))
+complete_turns b f ca p D apart hs hp zero [] c0 e0 u c rest l (eu, ec) fc sf sc = (refl, ap (λ l. l ++ rest) eu, subst (λ e. Fits b e c) (sym ec) fc)
+complete_turns b f ca p D apart hs hp (suc k) [] c0 e0 u c rest l (eu, ec) fc sf sc =
+    subst (λ u. Reads b [] e0 rest (turns f p (suc k) c (u ++ rest))) (sym eu) (on_false (λ o. Reads b [] e0 rest o) (at_first f rest) _ _ sf (refl, refl, subst (λ e. Fits b e c) (sym ec) fc))
+complete_turns b f ca p D apart hs hp zero (x ∷ xs) c0 e0 u c rest l (v, w, m0, eu, d, each) fc sf sc =
+    absurd (longer f v (w ++ rest) (hs c0 m0 v x d) (subst (λ l. length l ≤ 0) (regroup u v w rest eu) l))
+complete_turns {T} {A} b f ca p D apart hs hp (suc k) (x ∷ xs) c0 e0 u c rest l (v, w, m0, eu, d, each) fc sf sc =
+    let start = hs c0 m0 v x d in
+    let tail : at_first ca (w ++ rest) ≡ false = stops ca f true apart w rest (starts_each false f D hs xs m0 e0 w each) (λ _. sc) in
+    let l' = shorter f v w rest k start (subst (λ l. length l ≤ suc k) (regroup u v w rest eu) l) in
+    let more : A → ℕ → List T → Out T (List A) = λ x m rest. turns f p k m rest >>= (λ xs e r. got (x ∷ xs) e r) in
+    regrouped (λ l. Reads b (x ∷ xs) e0 rest (turns f p (suc k) c l)) u v w rest eu
+    (on_true (λ o. Reads b (x ∷ xs) e0 rest o) (at_first f (v ++ (w ++ rest))) _ _ (at_first_app f v (w ++ rest) start)
+    (reads_then b (p c (v ++ (w ++ rest))) x m0 (w ++ rest) more (x ∷ xs) e0 rest (hp c0 m0 v x c (w ++ rest) d fc tail)
+    (λ m fm. reads_then b (turns f p k m (w ++ rest)) xs e0 rest (λ xs e r. got (x ∷ xs) e r) (x ∷ xs) e0 rest
+    (complete_turns b f ca p D apart hs hp k xs m0 e0 w m rest l' each fm sf sc) (λ e fe. (refl, refl, fe)))))
+
+-- ---- what is left lies in the given tokens
+
+abbrev pub Lies : {T A : Type 0} → List T → Out T A → Type 0
+Lies rest (got x c r) = (v : _) × (rest ≡ v ++ r)
+Lies rest (bad why r) = (v : _) × (rest ≡ v ++ r)
+Lies rest spent = Unit {0}
+
+-- or room was lacking
+abbrev pub Within : {T A : Type 0} → Bool → List T → Out T A → Type 0
+Within b rest (got x c r) = (v : _) × (rest ≡ v ++ r)
+Within b rest (bad full r) = MayLack b ⊎ ((v : _) × (rest ≡ v ++ r))
+Within b rest (bad stuck r) = (v : _) × (rest ≡ v ++ r)
+Within b rest spent = Unit {0}
+
+pub within_lies : {T A : Type 0} (b : Bool) (rest : List T) (o : Out T A) → Lies rest o → Within b rest o
+within_lies b rest (got x c r) h = h
+within_lies b rest (bad full r) h = inr h
+within_lies b rest (bad stuck r) h = h
+within_lies b rest spent h = tt
+
+further : {T : Type 0} (rest v r w q : List T) → rest ≡ v ++ r → r ≡ w ++ q → rest ≡ (v ++ w) ++ q
+further rest v r w q e e' = e ∙ ap (λ l. v ++ l) e' ∙ sym (append_assoc v w q)
+
+lies_more : {T A : Type 0} (rest r v : List T) → rest ≡ v ++ r → (o : Out T A) → Lies r o → Lies rest o
+lies_more rest r v e (got x c q) (w, e') = (v ++ w, further rest v r w q e e')
+lies_more rest r v e (bad why q) (w, e') = (v ++ w, further rest v r w q e e')
+lies_more rest r v e spent h = tt
+
+pub lies_then : {T A C : Type 0} (rest : List T) (o : Out T A) (k : A → ℕ → List T → Out T C) → Lies rest o → ((x : A) (c : ℕ) (r : List T) → Lies r (k x c r)) → Lies rest (o >>= k)
+lies_then rest (got x c r) k (v, e) h = lies_more rest r v e (k x c r) (h x c r)
+lies_then rest (bad why r) k h h' = h
+lies_then rest spent k h h' = tt
+
+lies_here : {T A : Type 0} (x : A) (c : ℕ) (r : List T) → Lies r (got x c r)
+lies_here x c r = ([], refl)
+
+lies_cond : {T A : Type 0} (z : Bool) (rest : List T) (o o' : Out T A) → Lies rest o → Lies rest o' → Lies rest (cond z o o')
+lies_cond true rest o o' h k = h
+lies_cond false rest o o' h k = k
+
+lies_goes : {T A C : Type 0} (z : Bool) (x : A) (c : ℕ) (r : List T) (o : Out T C) → Lies r o → Lies {A = A × Option C} r (if_goes z x c r o)
+lies_goes true x c r o h = lies_then r o _ h (λ y c r. ([], refl))
+lies_goes false x c r o h = ([], refl)
+
+pub lies_turns : {T A : Type 0} (f : T → Bool) (p : ℕ → List T → Out T A) → ((c : ℕ) (ts : List T) → Lies ts (p c ts)) → (k c : ℕ) (ts : List T) → Lies ts (turns f p k c ts)
+lies_turns f p h zero c ts = ([], refl)
+lies_turns f p h (suc k) c ts = lies_cond (at_first f ts) ts _ _
+    (lies_then ts (p c ts) _ (h c ts) (λ x m r. lies_then r (turns f p k m r) _ (lies_turns f p h k m r) (λ xs e r. ([], refl)))) ([], refl)
+
+lies_one : {T V : Type 0} (face : T → V) (f : T → Bool) (c : ℕ) (ts : List T) → Lies ts (one face f c ts)
+lies_one face f c [] = ([], refl)
+lies_one face f c (t ∷ ts) = lies_cond (f t) (t ∷ ts) (got (face t) c ts) (bad stuck (t ∷ ts)) (t ∷ [], refl) ([], refl)
+
+within_more : {T A : Type 0} (b : Bool) (rest r v : List T) → rest ≡ v ++ r → (o : Out T A) → Within b r o → Within b rest o
+within_more b rest r v e (got x c q) (w, e') = (v ++ w, further rest v r w q e e')
+within_more b rest r v e (bad full q) (inl h) = inl h
+within_more b rest r v e (bad full q) (inr (w, e')) = inr (v ++ w, further rest v r w q e e')
+within_more b rest r v e (bad stuck q) (w, e') = (v ++ w, further rest v r w q e e')
+within_more b rest r v e spent h = tt
+
+pub within_then : {T A C : Type 0} (b : Bool) (rest : List T) (o : Out T A) (k : A → ℕ → List T → Out T C) → Within b rest o → ((x : A) (c : ℕ) (r : List T) → Lies r (k x c r)) → Within b rest (o >>= k)
+within_then b rest (got x c r) k (v, e) h = within_more b rest r v e (k x c r) (within_lies b r (k x c r) (h x c r))
+within_then b rest (bad full r) k h h' = h
+within_then b rest (bad stuck r) k h h' = h
+within_then b rest spent k h h' = tt
+
+-- behind a text that is read
+within_behind : {T A C : Type 0} (b : Bool) (rest mid : List T) (o : Out T A) (x : A) (m0 : ℕ) (k : A → ℕ → List T → Out T C)
+    → Reads b x m0 mid o → ((m : ℕ) → Fits b m0 m → Within b rest (k x m mid)) → Within b rest (o >>= k)
+within_behind b rest mid (got y e r) x m0 k (ey, er, fe) h = subst (λ y. Within b rest (k y e r)) (sym ey) (subst (λ r. Within b rest (k x e r)) (sym er) (h e fe))
+within_behind b rest mid (bad full r) x m0 k p h = inl p
+within_behind b rest mid (bad stuck r) x m0 k p h = elim p [ ]
+within_behind b rest mid spent x m0 k p h = elim p [ ]
+
+-- a text, and the beginning of one behind it
+within_second : {T A C : Type 0} (b : Bool) (ca fb : T → Bool) (p : List T → Out T A) (k : A → ℕ → List T → Out T C) → Apart ca fb → (v w rest : List T) (x : A) (m0 : ℕ)
+    → Within b rest (p (v ++ rest)) → (at_first ca (w ++ rest) ≡ false → Reads b x m0 (w ++ rest) (p (v ++ (w ++ rest)))) → Starts true fb w
+    → ((x : A) (c : ℕ) (r : List T) → Lies r (k x c r)) → (Starts false fb w → (m : ℕ) → Fits b m0 m → Within b rest (k x m (w ++ rest)))
+    → Within b rest (p (v ++ (w ++ rest)) >>= k)
+within_second b ca fb p k apart v [] rest x m0 hv hp s any h = within_then b rest (p (v ++ rest)) k hv any
+within_second b ca fb p k apart v (t ∷ w) rest x m0 hv hp s any h =
+    within_behind b rest ((t ∷ w) ++ rest) (p (v ++ ((t ∷ w) ++ rest))) x m0 k (hp (not_true (ca t) (λ e. apart t e s))) (h s)
+
+within_turns : {T A : Type 0} (b : Bool) (f ca : T → Bool) (p : ℕ → List T → Out T A) (D : Counted T A) (B : ℕ → List T → Type 0) → Apart ca f
+    → ((c0 e0 : ℕ) (u : List T) (x : A) → D c0 e0 u x → Starts false f u) → ((c0 : ℕ) (u : List T) → B c0 u → Starts true f u)
+    → ((c0 e0 : ℕ) (u : List T) (x : A) → D c0 e0 u x → B c0 u)
+    → ((c0 e0 : ℕ) (u : List T) (x : A) (c : ℕ) (rest : List T) → D c0 e0 u x → Fits b c0 c → at_first ca rest ≡ false → Reads b x e0 rest (p c (u ++ rest)))
+    → ((c0 : ℕ) (u : List T) (c : ℕ) (rest : List T) → B c0 u → Fits b c0 c → Within b rest (p c (u ++ rest)))
+    → ((c : ℕ) (ts : List T) → Lies ts (p c ts))
+    → (k : ℕ) (xs : List A) (c0 m0 : ℕ) (v w : List T) (c : ℕ) (rest : List T) → length (v ++ (w ++ rest)) ≤ k → Each D c0 m0 v xs → B m0 w → Fits b c0 c → Within b rest (turns f p k c (v ++ (w ++ rest)))
+within_turns {T} {A} b f ca p D B apart hd hb db hp hw any k [] c0 m0 v w c rest l (ev, ec) q fc =
+    subst (λ v. Within b rest (turns f p k c (v ++ (w ++ rest)))) (sym ev) (go k w (subst (λ v. length (v ++ (w ++ rest)) ≤ k) ev l) q)
+  where
+    go : (k : ℕ) (w : List T) → length (w ++ rest) ≤ k → B m0 w → Within b rest (turns f p k c (w ++ rest))
+    go k [] l q = within_lies b rest (turns f p k c rest) (lies_turns f p any k c rest)
+    go zero (t ∷ w) l q = absurd (omega (arith, l))
+    go (suc k) (t ∷ w) l q =
+        on_true (λ o. Within b rest o) (f t) _ (got [] c ((t ∷ w) ++ rest)) (hb m0 (t ∷ w) q)
+        (within_then b rest (p c ((t ∷ w) ++ rest)) _ (hw m0 (t ∷ w) c rest q (subst (λ m. Fits b m c) (sym ec) fc))
+        (λ x m r. lies_then r (turns f p k m r) _ (lies_turns f p any k m r) (λ xs e r. ([], refl))))
+within_turns b f ca p D B apart hd hb db hp hw any zero (x ∷ xs) c0 m0 v w c rest l (v1, v2, m1, ev, d, each) q fc =
+    absurd (longer f v1 (v2 ++ (w ++ rest)) (hd c0 m1 v1 x d) (subst (λ l. length l ≤ 0) (regroup v v1 v2 (w ++ rest) ev) l))
+within_turns {T} {A} b f ca p D B apart hd hb db hp hw any (suc k) (x ∷ xs) c0 m0 v w c rest l (v1, v2, m1, ev, d, each) q fc =
+    let shape = regroup v v1 v2 (w ++ rest) ev in
+    let start = hd c0 m1 v1 x d in
+    let rest_of = append_assoc v2 w rest in
+    let l' = shorter f v1 v2 (w ++ rest) k start (subst (λ l. length l ≤ suc k) shape l) in
+    let more : A → ℕ → List T → Out T (List A) = λ x m rest. turns f p k m rest >>= (λ xs e r. got (x ∷ xs) e r) in
+    let read = within_second b ca f (p c) more apart v1 (v2 ++ w) rest x m1 (hw c0 v1 c rest (db c0 m1 v1 x d) fc) (hp c0 m1 v1 x c ((v2 ++ w) ++ rest) d fc)
+    (starts_append true f v2 w (starts_each false f D hd xs m1 m0 v2 each) (hb m0 w q))
+    (λ x m r. lies_then r (turns f p k m r) _ (lies_turns f p any k m r) (λ xs e r. ([], refl)))
+    (λ _ m fm. within_then b rest (turns f p k m ((v2 ++ w) ++ rest)) _
+    (subst (λ l. Within b rest (turns f p k m l)) (sym rest_of) (within_turns b f ca p D B apart hd hb db hp hw any k xs m1 m0 v2 w m rest l' each q fm)) (λ xs e r. ([], refl))) in
+    let read' = subst (λ l. Within b rest (p c l >>= more)) (ap (λ l. v1 ++ l) rest_of ∙ sym shape) read in
+    on_true (λ o. Within b rest o) (at_first f (v ++ (w ++ rest))) _ (got [] c (v ++ (w ++ rest))) (ap (at_first f) shape ∙ at_first_app f v1 (v2 ++ (w ++ rest)) start) read'
+
+module _ (T V S : Type 0) (Sort : S → Type 0) (face : T → V) (rule : (s : S) → Part T V S Sort (Sort s)) (heads : S → T → Bool) (empties : S → Bool) (tails : S → T → Bool) where
+  abbrev nul : {A : Type 0} → Part T V S Sort A → Bool
+  nul a = null T V S Sort face rule heads empties a
+
+  abbrev fst : {A : Type 0} → Part T V S Sort A → T → Bool
+  fst a = first T V S Sort face rule heads empties a
+
+  abbrev cnt : {A : Type 0} → Part T V S Sort A → T → Bool
+  cnt a = cont T V S Sort face rule heads empties tails a
+
+  abbrev Ok : {A : Type 0} → Part T V S Sort A → Type 0
+  Ok a = Decided T V S Sort face rule heads empties tails a
+
+  module _ (R : (s : S) → ℕ → ℕ → ℕ → List T → Out T (Sort s)) (rest_lies : (s : S) (d l c : ℕ) (ts : List T) → Lies ts (R s d l c ts)) where
+    abbrev Rd : {A : Type 0} → Part T V S Sort A → ℕ → ℕ → ℕ → List T → Out T A
+    Rd a d l c ts = read_by T V S Sort face rule heads empties R a d l c ts
+
+    pub lies_by : {A : Type 0} (a : Part T V S Sort A) (d l c : ℕ) (ts : List T) → Lies ts (Rd a d l c ts)
+    lies_by (g.mark f) d l c ts = lies_one face f c ts
+    lies_by (g.sym s) d l c ts = rest_lies s d l c ts
+    lies_by (g.both a b) d l c ts = lies_then ts (Rd a d l c ts) _ (lies_by a d l c ts) (λ x m r. lies_then r (Rd b d l m r) _ (lies_by b d l m r) (λ y e r. ([], refl)))
+    lies_by (g.either a b) d l c ts = lies_cond (at_first (fst a) ts) ts _ _ (lies_by a d l c ts) (lies_by b d l c ts)
+    lies_by (g.maybe a) d l c ts = lies_cond (at_first (fst a) ts) ts _ _ (lies_then ts (Rd a d l c ts) _ (lies_by a d l c ts) (λ x e r. ([], refl))) ([], refl)
+    lies_by (g.many a) d l c ts = lies_turns (fst a) (Rd a d l) (lies_by a d l) (length ts) c ts
+    lies_by (g.then_if a goes b) d l c ts = lies_then ts (Rd a d l c ts) _ (lies_by a d l c ts) (λ x m r. lies_goes (goes x && at_first (fst b) r) x m r (Rd b d l m r) (lies_by b d l m r))
+    lies_by (g.when f a) d l c ts = lies_cond (at_first f ts) ts _ _ (lies_by a d l c ts) ([], refl)
+    lies_by (g.nest a) zero l c ts = lies_cond (at_first (fst a) ts) ts (bad full ts) (bad stuck ts) ([], refl) ([], refl)
+    lies_by (g.nest a) (suc d) l c ts = lies_by a d l c ts
+    lies_by (g.counts a) d l zero ts = lies_cond (at_first (fst a) ts) ts (bad full ts) (bad stuck ts) ([], refl) ([], refl)
+    lies_by (g.counts a) d l (suc c) ts = lies_by a d l c ts
+    lies_by (g.limited a) d l c ts = lies_then ts (Rd a d l l ts) _ (lies_by a d l l ts) (λ x e r. ([], refl))
+    lies_by (g.gives f a) d l c ts = lies_then ts (Rd a d l c ts) _ (lies_by a d l c ts) (λ x e r. ([], refl))
+
+    module _ (b : Bool) (D : (s : S) → ℕ → ℕ → ℕ → ℕ → List T → Sort s → Type 0) (B : (s : S) → ℕ → ℕ → ℕ → List T → Type 0)
+        (hs : (s : S) (d l c e : ℕ) (u : List T) (x : Sort s) → D s d l c e u x → Starts (empties s) (heads s) u) where
+      abbrev Dv : {A : Type 0} → Part T V S Sort A → ℕ → ℕ → ℕ → ℕ → List T → A → Type 0
+      Dv a d l c e u x = Derives_by T V S Sort face rule D a d l c e u x
+
+      abbrev Bv : {A : Type 0} → Part T V S Sort A → ℕ → ℕ → ℕ → List T → Type 0
+      Bv a d l c u = Begins_by T V S Sort face rule D B a d l c u
+
+      start : {A : Type 0} (a : Part T V S Sort A) → Ok a → (d l c e : ℕ) (u : List T) (x : A) → Dv a d l c e u x → Starts (nul a) (fst a) u
+      start a ok = starts_D T V S Sort face rule heads empties tails D B hs a ok
+
+      firm : {A : Type 0} (a : Part T V S Sort A) → Ok a → nul a ≡ false → (d l c e : ℕ) (u : List T) (x : A) → Dv a d l c e u x → Starts false (fst a) u
+      firm a ok = solid T V S Sort face rule heads empties tails D B hs a ok
+
+      -- ---- each text is read
+
+      module _ (h : (s : S) (d0 l0 c0 e0 : ℕ) (u : List T) (x : Sort s) (d l c : ℕ) (rest : List T) → D s d0 l0 c0 e0 u x → Fits b d0 d → Fits b l0 l → Fits b c0 c → at_first (tails s) rest ≡ false
+          → Reads b x e0 rest (R s d l c (u ++ rest))) where
+        pub complete_by : {A : Type 0} (a : Part T V S Sort A) → Ok a → (d0 l0 c0 e0 : ℕ) (u : List T) (x : A) (d l c : ℕ) (rest : List T) → Dv a d0 l0 c0 e0 u x
+            → Fits b d0 d → Fits b l0 l → Fits b c0 c → at_first (cnt a) rest ≡ false → Reads b x e0 rest (Rd a d l c (u ++ rest))
+        complete_by (g.mark f) ok d0 l0 c0 e0 u x d l c rest (t, eu, is, ex, ec) fd fl fc st =
+            subst (λ u. Reads b x e0 rest (one face f c (u ++ rest))) (sym eu)
+            (on_true (λ o. Reads b x e0 rest o) (f t) (got (face t) c rest) (bad stuck (t ∷ rest)) is (sym ex, refl, subst (λ e. Fits b e c) (sym ec) fc))
+        complete_by (g.sym s) ok d0 l0 c0 e0 u x d l c rest p fd fl fc st = h s d0 l0 c0 e0 u x d l c rest p fd fl fc st
+        complete_by (g.both a z) ok d0 l0 c0 e0 u x d l c rest (v, w, m0, eu, p, q) fd fl fc st =
+            let halves = at_first_or_if (nul z) (cnt z) (λ t. fst z t || cnt a t) rest st in
+            let tail : at_first (cnt a) (w ++ rest) ≡ false = stops (cnt a) (fst z) (nul z) ok.2 w rest (start z ok.1 d0 l0 m0 e0 w x.1 q) (λ n. (at_first_or (fst z) (cnt a) rest (halves.1 n)).1) in
+            regrouped (λ i. Reads b x e0 rest (Rd (g.both a z) d l c i)) u v w rest eu
+            (reads_then b (Rd a d l c (v ++ (w ++ rest))) x.0 m0 (w ++ rest) _ x e0 rest (complete_by a ok.0 d0 l0 c0 m0 v x.0 d l c (w ++ rest) p fd fl fc tail)
+            (λ m fm. reads_then b (Rd z d l m (w ++ rest)) x.1 e0 rest _ x e0 rest (complete_by z ok.1 d0 l0 m0 e0 w x.1 d l m rest q fd fl fm halves.0) (λ e fe. (refl, refl, fe))))
+        complete_by (g.either a z) ok d0 l0 c0 e0 u x d l c rest (inl p) fd fl fc st =
+            on_true (λ o. Reads b x e0 rest o) (at_first (fst a) (u ++ rest)) _ _ (at_first_app (fst a) u rest (firm a ok.0 ok.3 d0 l0 c0 e0 u x p))
+            (complete_by a ok.0 d0 l0 c0 e0 u x d l c rest p fd fl fc (at_first_or (cnt a) (cnt z) rest st).0)
+        complete_by (g.either a z) ok d0 l0 c0 e0 u x d l c rest (inr p) fd fl fc st =
+            on_false (λ o. Reads b x e0 rest o) (at_first (fst a) (u ++ rest)) _ _ (stops (fst a) (fst z) false ok.2 u rest (firm z ok.1 ok.4 d0 l0 c0 e0 u x p) (λ n. cc))
+            (complete_by z ok.1 d0 l0 c0 e0 u x d l c rest p fd fl fc (at_first_or (cnt a) (cnt z) rest st).1)
+        complete_by (g.maybe a) ok d0 l0 c0 e0 u None d l c rest (eu, ec) fd fl fc st =
+            subst (λ u. Reads b None e0 rest (Rd (g.maybe a) d l c (u ++ rest))) (sym eu)
+            (on_false (λ o. Reads b None e0 rest o) (at_first (fst a) rest) _ _ (at_first_or (fst a) (cnt a) rest st).0 (refl, refl, subst (λ e. Fits b e c) (sym ec) fc))
+        complete_by (g.maybe a) ok d0 l0 c0 e0 u (Some x) d l c rest p fd fl fc st =
+            on_true (λ o. Reads b (Some x) e0 rest o) (at_first (fst a) (u ++ rest)) _ _ (at_first_app (fst a) u rest (firm a ok.0 ok.1 d0 l0 c0 e0 u x p))
+            (reads_then b (Rd a d l c (u ++ rest)) x e0 rest _ (Some x) e0 rest (complete_by a ok.0 d0 l0 c0 e0 u x d l c rest p fd fl fc (at_first_or (fst a) (cnt a) rest st).1) (λ e fe. (refl, refl, fe)))
+        complete_by (g.many a) ok d0 l0 c0 e0 u xs d l c rest p fd fl fc st =
+            let halves = at_first_or (fst a) (cnt a) rest st in
+            complete_turns b (fst a) (cnt a) (Rd a d l) (Dv a d0 l0) ok.2 (firm a ok.0 ok.1 d0 l0)
+            (λ c0 e0 u x c rest p fc st. complete_by a ok.0 d0 l0 c0 e0 u x d l c rest p fd fl fc st) (length (u ++ rest)) xs c0 e0 u c rest (omega arith) p fc halves.0 halves.1
+        complete_by (g.then_if a goes z) ok d0 l0 c0 e0 u x d l c rest p fd fl fc st =
+            complete_then b (cnt a) (fst z) (cnt z) (Rd a d l) (Rd z d l) (Dv a d0 l0) (Dv z d0 l0) goes ok.2
+            (λ c0 e0 u x c rest p fc st. complete_by a ok.0 d0 l0 c0 e0 u x d l c rest p fd fl fc st) (λ c0 e0 u x c rest p fc st. complete_by z ok.1 d0 l0 c0 e0 u x d l c rest p fd fl fc st)
+            (firm z ok.1 ok.4 d0 l0) c0 e0 u x.0 x.1 c rest p fc st
+        complete_by (g.when f a) ok d0 l0 c0 e0 u x d l c rest (hd, p) fd fl fc st =
+            on_true (λ o. Reads b x e0 rest o) (at_first f (u ++ rest)) _ _ (head_first f (fst a) u rest hd (firm a ok.0 ok.1 d0 l0 c0 e0 u x p)) (complete_by a ok.0 d0 l0 c0 e0 u x d l c rest p fd fl fc st)
+        complete_by (g.nest a) ok zero l0 c0 e0 u x d l c rest p fd fl fc st = elim p [ ]
+        complete_by (g.nest a) ok (suc d0) l0 c0 e0 u x zero l c rest p fd fl fc st =
+            on_true (λ o. Reads b x e0 rest o) (at_first (fst a) (u ++ rest)) _ _ (at_first_app (fst a) u rest (firm a ok.0 ok.1 d0 l0 c0 e0 u x p)) (fits_none b d0 fd)
+        complete_by (g.nest a) ok (suc d0) l0 c0 e0 u x (suc d) l c rest p fd fl fc st = complete_by a ok.0 d0 l0 c0 e0 u x d l c rest p (fits_less b d0 d fd) fl fc st
+        complete_by (g.counts a) ok d0 l0 zero e0 u x d l c rest p fd fl fc st = elim p [ ]
+        complete_by (g.counts a) ok d0 l0 (suc c0) e0 u x d l zero rest p fd fl fc st =
+            on_true (λ o. Reads b x e0 rest o) (at_first (fst a) (u ++ rest)) _ _ (at_first_app (fst a) u rest (firm a ok.0 ok.1 d0 l0 c0 e0 u x p)) (fits_none b c0 fc)
+        complete_by (g.counts a) ok d0 l0 (suc c0) e0 u x d l (suc c) rest p fd fl fc st = complete_by a ok.0 d0 l0 c0 e0 u x d l c rest p fd fl (fits_less b c0 c fc) st
+        complete_by (g.limited a) ok d0 l0 c0 e0 u x d l c rest (m0, p, ec) fd fl fc st =
+            reads_then b (Rd a d l l (u ++ rest)) x m0 rest _ x e0 rest (complete_by a ok d0 l0 l0 m0 u x d l l rest p fd fl fl st) (λ e fe. (refl, refl, subst (λ e. Fits b e c) (sym ec) fc))
+        complete_by (g.gives f a) ok d0 l0 c0 e0 u y d l c rest (x, p, ey) fd fl fc st =
+            reads_then b (Rd a d l c (u ++ rest)) x e0 rest _ y e0 rest (complete_by a ok d0 l0 c0 e0 u x d l c rest p fd fl fc st) (λ e fe. (sym ey, refl, fe))
+
+        -- ---- no token up to which a text is begun is refused
+
+        module _ (nil : (s : S) (d l c : ℕ) → B s d l c []) (db : (s : S) (d l c e : ℕ) (u : List T) (x : Sort s) → D s d l c e u x → B s d l c u)
+            (hb : (s : S) (d l c : ℕ) (u : List T) → B s d l c u → Starts true (heads s) u)
+            (k : (s : S) (d0 l0 c0 : ℕ) (u : List T) (d l c : ℕ) (rest : List T) → B s d0 l0 c0 u → Fits b d0 d → Fits b l0 l → Fits b c0 c → Within b rest (R s d l c (u ++ rest))) where
+          lead : {A : Type 0} (a : Part T V S Sort A) → Ok a → (d l c : ℕ) (u : List T) → Bv a d l c u → Starts true (fst a) u
+          lead a ok = starts_B T V S Sort face rule heads empties tails D B hs hb a ok
+
+          begun : {A : Type 0} (a : Part T V S Sort A) (d l c e : ℕ) (u : List T) (x : A) → Dv a d l c e u x → Bv a d l c u
+          begun a = text_begins T V S Sort face rule heads empties tails D B nil db a
+
+          anyhow : {A : Type 0} (a : Part T V S Sort A) (d l c : ℕ) (ts : List T) → Within b ts (Rd a d l c ts)
+          anyhow a d l c ts = within_lies b ts (Rd a d l c ts) (lies_by a d l c ts)
+
+          pub within_by : {A : Type 0} (a : Part T V S Sort A) → Ok a → (d0 l0 c0 : ℕ) (u : List T) (d l c : ℕ) (rest : List T) → Bv a d0 l0 c0 u
+              → Fits b d0 d → Fits b l0 l → Fits b c0 c → Within b rest (Rd a d l c (u ++ rest))
+          within_by (g.mark f) ok d0 l0 c0 [] d l c rest p fd fl fc = anyhow (g.mark f) d l c rest
+          within_by (g.mark f) ok d0 l0 c0 (t ∷ u) d l c rest (eu, is) fd fl fc =
+              subst (λ u. Within b rest (one face f c (t ∷ (u ++ rest)))) (sym eu) (on_true (λ o. Within b rest o) (f t) (got (face t) c rest) (bad stuck (t ∷ rest)) is ([], refl))
+          within_by (g.sym s) ok d0 l0 c0 u d l c rest p fd fl fc = k s d0 l0 c0 u d l c rest p fd fl fc
+          within_by (g.both a z) ok d0 l0 c0 u d l c rest (inl p) fd fl fc =
+              within_then b rest (Rd a d l c (u ++ rest)) _ (within_by a ok.0 d0 l0 c0 u d l c rest p fd fl fc) (λ x m r. lies_then r (Rd z d l m r) _ (lies_by z d l m r) (λ y e r. ([], refl)))
+          within_by (g.both a z) ok d0 l0 c0 u d l c rest (inr (v, w, x, m0, eu, p, q)) fd fl fc =
+              regrouped (λ i. Within b rest (Rd (g.both a z) d l c i)) u v w rest eu
+              (within_second b (cnt a) (fst z) (Rd a d l c) _ ok.2 v w rest x m0
+              (within_by a ok.0 d0 l0 c0 v d l c rest (begun a d0 l0 c0 m0 v x p) fd fl fc)
+              (complete_by a ok.0 d0 l0 c0 m0 v x d l c (w ++ rest) p fd fl fc)
+              (lead z ok.1 d0 l0 m0 w q)
+              (λ x m r. lies_then r (Rd z d l m r) _ (lies_by z d l m r) (λ y e r. ([], refl)))
+              (λ _ m fm. within_then b rest (Rd z d l m (w ++ rest)) _ (within_by z ok.1 d0 l0 m0 w d l m rest q fd fl fm) (λ y e r. ([], refl))))
+          within_by (g.either a z) ok d0 l0 c0 [] d l c rest p fd fl fc = anyhow (g.either a z) d l c rest
+          within_by (g.either a z) ok d0 l0 c0 (t ∷ u) d l c rest (inl p) fd fl fc =
+              on_true (λ o. Within b rest o) (fst a t) _ _ (lead a ok.0 d0 l0 c0 (t ∷ u) p) (within_by a ok.0 d0 l0 c0 (t ∷ u) d l c rest p fd fl fc)
+          within_by (g.either a z) ok d0 l0 c0 (t ∷ u) d l c rest (inr p) fd fl fc =
+              on_false (λ o. Within b rest o) (fst a t) _ _ (not_true (fst a t) (λ e. ok.2 t e (lead z ok.1 d0 l0 c0 (t ∷ u) p))) (within_by z ok.1 d0 l0 c0 (t ∷ u) d l c rest p fd fl fc)
+          within_by (g.maybe a) ok d0 l0 c0 [] d l c rest p fd fl fc = anyhow (g.maybe a) d l c rest
+          within_by (g.maybe a) ok d0 l0 c0 (t ∷ u) d l c rest (inl e) fd fl fc = cc
+          within_by (g.maybe a) ok d0 l0 c0 (t ∷ u) d l c rest (inr p) fd fl fc =
+              on_true (λ o. Within b rest o) (fst a t) _ (got None c (t ∷ (u ++ rest))) (lead a ok.0 d0 l0 c0 (t ∷ u) p)
+              (within_then b rest (Rd a d l c (t ∷ (u ++ rest))) _ (within_by a ok.0 d0 l0 c0 (t ∷ u) d l c rest p fd fl fc) (λ x e r. ([], refl)))
+          within_by (g.many a) ok d0 l0 c0 u d l c rest (inl eu) fd fl fc = subst (λ u. Within b rest (Rd (g.many a) d l c (u ++ rest))) (sym eu) (anyhow (g.many a) d l c rest)
+          within_by (g.many a) ok d0 l0 c0 u d l c rest (inr (v, w, xs, m0, eu, each, q)) fd fl fc =
+              regrouped (λ i. Within b rest (Rd (g.many a) d l c i)) u v w rest eu
+              (within_turns b (fst a) (cnt a) (Rd a d l) (Dv a d0 l0) (Bv a d0 l0) ok.2 (firm a ok.0 ok.1 d0 l0) (lead a ok.0 d0 l0) (begun a d0 l0)
+              (λ c0 e0 u x c rest p fc st. complete_by a ok.0 d0 l0 c0 e0 u x d l c rest p fd fl fc st) (λ c0 u c rest p fc. within_by a ok.0 d0 l0 c0 u d l c rest p fd fl fc)
+              (lies_by a d l) (length (v ++ (w ++ rest))) xs c0 m0 v w c rest (omega arith) each q fc)
+          within_by (g.then_if a goes z) ok d0 l0 c0 u d l c rest (inl p) fd fl fc =
+              within_then b rest (Rd a d l c (u ++ rest)) _ (within_by a ok.0 d0 l0 c0 u d l c rest p fd fl fc) (λ x m r. lies_goes (goes x && at_first (fst z) r) x m r (Rd z d l m r) (lies_by z d l m r))
+          within_by (g.then_if {A} {B = C} a goes z) ok d0 l0 c0 u d l c rest (inr (v, w, x, m0, eu, p, is, q)) fd fl fc =
+              let go : A → ℕ → List T → Out T (A × Option C) = λ x m r. if_goes (goes x && at_first (fst z) r) x m r (Rd z d l m r) in
+              regrouped (λ i. Within b rest (Rd (g.then_if a goes z) d l c i)) u v w rest eu
+              (within_second b (cnt a) (fst z) (Rd a d l c) go ok.2 v w rest x m0
+              (within_by a ok.0 d0 l0 c0 v d l c rest (begun a d0 l0 c0 m0 v x p) fd fl fc)
+              (complete_by a ok.0 d0 l0 c0 m0 v x d l c (w ++ rest) p fd fl fc)
+              (lead z ok.1 d0 l0 m0 w q)
+              (λ x m r. lies_goes (goes x && at_first (fst z) r) x m r (Rd z d l m r) (lies_by z d l m r))
+              (λ s m fm. subst (λ j. Within b rest (if_goes j x m (w ++ rest) (Rd z d l m (w ++ rest)))) (sym (and_both (goes x) (at_first (fst z) (w ++ rest)) is (at_first_app (fst z) w rest s)))
+              (within_then b rest (Rd z d l m (w ++ rest)) _ (within_by z ok.1 d0 l0 m0 w d l m rest q fd fl fm) (λ y e r. ([], refl)))))
+          within_by (g.when f a) ok d0 l0 c0 [] d l c rest p fd fl fc = anyhow (g.when f a) d l c rest
+          within_by (g.when f a) ok d0 l0 c0 (t ∷ u) d l c rest (hd, p) fd fl fc = on_true (λ o. Within b rest o) (f t) _ _ hd (within_by a ok.0 d0 l0 c0 (t ∷ u) d l c rest p fd fl fc)
+          within_by (g.nest a) ok d0 l0 c0 [] d l c rest p fd fl fc = anyhow (g.nest a) d l c rest
+          within_by (g.nest a) ok zero l0 c0 (t ∷ u) d l c rest p fd fl fc = cc
+          within_by (g.nest a) ok (suc d0) l0 c0 (t ∷ u) zero l c rest p fd fl fc =
+              on_true (λ o. Within b rest o) (fst a t) (bad full (t ∷ (u ++ rest))) (bad stuck (t ∷ (u ++ rest))) (lead a ok.0 d0 l0 c0 (t ∷ u) p) (inl (fits_none b d0 fd))
+          within_by (g.nest a) ok (suc d0) l0 c0 (t ∷ u) (suc d) l c rest p fd fl fc = within_by a ok.0 d0 l0 c0 (t ∷ u) d l c rest p (fits_less b d0 d fd) fl fc
+          within_by (g.counts a) ok d0 l0 c0 [] d l c rest p fd fl fc = anyhow (g.counts a) d l c rest
+          within_by (g.counts a) ok d0 l0 zero (t ∷ u) d l c rest p fd fl fc = cc
+          within_by (g.counts a) ok d0 l0 (suc c0) (t ∷ u) d l zero rest p fd fl fc =
+              on_true (λ o. Within b rest o) (fst a t) (bad full (t ∷ (u ++ rest))) (bad stuck (t ∷ (u ++ rest))) (lead a ok.0 d0 l0 c0 (t ∷ u) p) (inl (fits_none b c0 fc))
+          within_by (g.counts a) ok d0 l0 (suc c0) (t ∷ u) d l (suc c) rest p fd fl fc = within_by a ok.0 d0 l0 c0 (t ∷ u) d l c rest p fd fl (fits_less b c0 c fc)
+          within_by (g.limited a) ok d0 l0 c0 u d l c rest p fd fl fc = within_then b rest (Rd a d l l (u ++ rest)) _ (within_by a ok d0 l0 l0 u d l l rest p fd fl fl) (λ x e r. ([], refl))
+          within_by (g.gives f a) ok d0 l0 c0 u d l c rest p fd fl fc = within_then b rest (Rd a d l c (u ++ rest)) _ (within_by a ok d0 l0 c0 u d l c rest p fd fl fc) (λ x e r. ([], refl))

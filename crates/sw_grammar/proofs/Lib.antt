@@ -1,0 +1,16 @@
+pub mod Grow
+pub mod Starts
+pub mod Leading
+pub mod Sound
+pub mod Steps
+pub mod Exact
+pub mod Past
+pub mod Whole
+pub mod Prefix
+pub mod Avoid
+pub mod Alike
+pub mod Example
+pub mod Depth
+pub mod Near
+pub mod Begun
+pub mod Only

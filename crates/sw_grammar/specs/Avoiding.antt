@@ -1,0 +1,25 @@
+-- Tokens that no mark of a grammar takes.
+use Rattle.std.specs.Prelude.{◌≡◌, Bool, true, false, List, [], ◌∷◌}
+use Rattle.sw_grammar.specs.Grammar.{Part, mark, sym, both, either, maybe, many, then_if, when, nest, counts, limited, gives}
+use Rattle.sw_grammar.specs.Deciding.{Apart}
+
+-- no token of the run passes the test
+abbrev pub Free : {T : Type 0} → (T → Bool) → List T → Type 0
+Free f [] = Unit {0}
+Free f (t ∷ u) = (f t ≡ false) × Free f u
+
+module _ (T V S : Type 0) (Sort : S → Type 0) (f : T → Bool) (clean : S → Bool) where
+  -- no mark in it takes a token that passes the test, and of symbols it calls only clean ones
+  abbrev pub Avoids : {A : Type 0} → Part T V S Sort A → Type 0
+  Avoids (mark h) = Apart h f
+  Avoids (sym s) = clean s ≡ true
+  Avoids (both a b) = Avoids a × Avoids b
+  Avoids (either a b) = Avoids a × Avoids b
+  Avoids (maybe a) = Avoids a
+  Avoids (many a) = Avoids a
+  Avoids (then_if a goes b) = Avoids a × Avoids b
+  Avoids (when h a) = Avoids a
+  Avoids (nest a) = Avoids a
+  Avoids (counts a) = Avoids a
+  Avoids (limited a) = Avoids a
+  Avoids (gives h a) = Avoids a

@@ -1,0 +1,107 @@
+-- The reading of a grammar from the left, by the next token.
+use Rattle.std.specs.Prelude.{ℕ, zero, suc, ◌+◌, ◌*◌, Bool, true, false, ◌||◌, ◌&&◌, cond, List, [], ◌∷◌, length, Option, Some, None}
+use Rattle.sw_grammar.specs.Grammar.{Part, mark, sym, both, either, maybe, many, then_if, when, nest, counts, limited, gives}
+
+-- why a token is refused
+pub data Why : Type 0 where
+  -- there is no room: a bracket, or a part that is counted, would be one too many
+  full : Why
+  -- it goes on with no text, or there is none
+  stuck : Why
+
+-- What a reader answers: a value, how many more may be counted, and the tokens after it; or the tokens from the refused one on.
+pub data Out (T A : Type 0) : Type 0 where
+  got : A → ℕ → List T → Out T A
+  bad : Why → List T → Out T A
+  spent : Out T A
+
+infixl 10 ◌>>=◌
+abbrev pub ◌>>=◌ : {T A B : Type 0} → Out T A → (A → ℕ → List T → Out T B) → Out T B
+(got x c rest) >>= f = f x c rest
+(bad why rest) >>= f = bad why rest
+spent >>= f = spent
+
+-- the first token passes the test
+abbrev pub at_first : {T : Type 0} → (T → Bool) → List T → Bool
+at_first f [] = false
+at_first f (t ∷ ts) = f t
+
+-- the second too, where the first part may be empty
+abbrev pub or_if : Bool → Bool → Bool → Bool
+or_if true x y = x || y
+or_if false x y = x
+
+abbrev pub one : {T V : Type 0} → (T → V) → (T → Bool) → ℕ → List T → Out T V
+one face f c [] = bad stuck []
+one face f c (t ∷ ts) = cond (f t) (got (face t) c ts) (bad stuck (t ∷ ts))
+
+-- a part for which there is no room
+abbrev pub no_room : {T A : Type 0} → (T → Bool) → List T → Out T A
+no_room f ts = cond (at_first f ts) (bad full ts) (bad stuck ts)
+
+-- a second part, where it comes
+abbrev pub if_goes : {T A B : Type 0} → Bool → A → ℕ → List T → Out T B → Out T (A × Option B)
+if_goes true x c rest o = o >>= (λ y c' r. got (x, Some y) c' r)
+if_goes false x c rest o = got (x, None) c rest
+
+-- as many as there are, and the number bounds them
+abbrev pub turns : {T A : Type 0} → (T → Bool) → (ℕ → List T → Out T A) → ℕ → ℕ → List T → Out T (List A)
+turns f p zero c ts = got [] c ts
+turns f p (suc k) c ts = cond (at_first f ts) (p c ts >>= (λ x c' rest. turns f p k c' rest >>= (λ xs c'' r. got (x ∷ xs) c'' r))) (got [] c ts)
+
+module _ (T V S : Type 0) (Sort : S → Type 0) (face : T → V) (rule : (s : S) → Part T V S Sort (Sort s)) (heads : S → T → Bool) (empties : S → Bool) where
+  -- whether the empty run is a text of it
+  abbrev pub null : {A : Type 0} → Part T V S Sort A → Bool
+  null (mark f) = false
+  null (sym s) = empties s
+  null (both a b) = null a && null b
+  null (either a b) = null a || null b
+  null (maybe a) = true
+  null (many a) = true
+  null (then_if a goes b) = null a
+  null (when f a) = null a
+  null (nest a) = null a
+  null (counts a) = null a
+  null (limited a) = null a
+  null (gives f a) = null a
+
+  -- the tokens that a text of it begins with
+  abbrev pub first : {A : Type 0} → Part T V S Sort A → T → Bool
+  first (mark f) t = f t
+  first (sym s) t = heads s t
+  first (both a b) t = or_if (null a) (first a t) (first b t)
+  first (either a b) t = first a t || first b t
+  first (maybe a) t = first a t
+  first (many a) t = first a t
+  first (then_if a goes b) t = first a t
+  first (when f a) t = f t && first a t
+  first (nest a) t = first a t
+  first (counts a) t = first a t
+  first (limited a) t = first a t
+  first (gives f a) t = first a t
+
+  -- d brackets may be opened, a count of its own may hold l, and c more may be counted
+  abbrev pub read_by : ((s : S) → ℕ → ℕ → ℕ → List T → Out T (Sort s)) → {A : Type 0} → Part T V S Sort A → ℕ → ℕ → ℕ → List T → Out T A
+  read_by R (mark f) d l c ts = one face f c ts
+  read_by R (sym s) d l c ts = R s d l c ts
+  read_by R (both a b) d l c ts = read_by R a d l c ts >>= (λ x c' rest. read_by R b d l c' rest >>= (λ y c'' r. got (x, y) c'' r))
+  read_by R (either a b) d l c ts = cond (at_first (first a) ts) (read_by R a d l c ts) (read_by R b d l c ts)
+  read_by R (maybe a) d l c ts = cond (at_first (first a) ts) (read_by R a d l c ts >>= (λ x c' rest. got (Some x) c' rest)) (got None c ts)
+  read_by R (many a) d l c ts = turns (first a) (read_by R a d l) (length ts) c ts
+  read_by R (then_if a goes b) d l c ts = read_by R a d l c ts >>= (λ x c' rest. if_goes (goes x && at_first (first b) rest) x c' rest (read_by R b d l c' rest))
+  read_by R (when f a) d l c ts = cond (at_first f ts) (read_by R a d l c ts) (bad stuck ts)
+  read_by R (nest a) zero l c ts = no_room (first a) ts
+  read_by R (nest a) (suc d) l c ts = read_by R a d l c ts
+  read_by R (counts a) d l zero ts = no_room (first a) ts
+  read_by R (counts a) d l (suc c) ts = read_by R a d l c ts
+  read_by R (limited a) d l c ts = read_by R a d l l ts >>= (λ x _ rest. got x c rest)
+  read_by R (gives f a) d l c ts = read_by R a d l c ts >>= (λ x c' rest. got (f x) c' rest)
+
+  abbrev pub read : ℕ → (s : S) → ℕ → ℕ → ℕ → List T → Out T (Sort s)
+  read zero s d l c ts = spent
+  read (suc n) s d l c ts = read_by (read n) (rule s) d l c ts
+
+  -- read to its end: a symbol calls only symbols of lower rank before it takes a token
+  module _ (rank : S → ℕ) (width : ℕ) where
+    unfoldable pub reads : (s : S) → ℕ → ℕ → ℕ → List T → Out T (Sort s)
+    reads s d l c ts = read (suc (rank s + width * length ts)) s d l c ts
