@@ -1,0 +1,13 @@
+use Rattle.std.proofs.Common.{◌≡◌, ◌<◌, ◌≤◌, drop, length, ◌-◌}
+use Rattle.sw_syntax.specs.Patterns.{literal_part, pieces_rest}
+use Rattle.sw_parse_expr.proofs.pattern_literals.string.Given as goal
+
+abbrev pub invariant-pieces : goal.invariant-pieces
+invariant-pieces l = record {
+  so_far : literal_part l.lenient l.fn.room.brackets l.fn.room.limit l.fn.room.left (drop l.fn.at l.source) ≡ pieces_rest l.lenient (l.fn.room.brackets - 1) l.fn.room.limit l.fn.room.left l.start.span l.start.text l.pieces l.x (drop l.end l.source);
+  moves : l.fn.at < l.end;
+  inside : l.end ≤ length l.source;
+}
+
+abbrev pub decreases-pieces : goal.decreases-pieces
+decreases-pieces l = length l.source - l.end

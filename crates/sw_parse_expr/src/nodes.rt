@@ -1,0 +1,175 @@
+//! The nodes of expressions that need memory, and what a token says of one.
+
+ghost use Rattle.std.specs.Prelude.{◌≡◌, ◌≤◌, [], ◌∷◌, ◌++◌, IfOk, Some, None, pos};
+ghost use Rattle.sw_lex.specs.Rules.{number};
+ghost use Rattle.sw_syntax.specs.Sights.{token_face};
+ghost use Rattle.sw_syntax.specs.Values as spec;
+
+use sqlite_items::{Boxed, Items};
+use std::alloc::{AllocError, Global};
+use sw_base::{Duplicate, NoMemory, Span};
+use sw_lex::{Token, TokenKind};
+use sw_tree::{Argument, BinaryOperator, Expr, Name, PrefixOperator, TryForm};
+
+pub fn prefix_operator(kind: TokenKind) -> PrefixOperator
+    ensures { result ≡ spec.prefix_of kind }
+{
+    match kind {
+        TokenKind::Minus => PrefixOperator::Minus,
+        _ => PrefixOperator::Not,
+    }
+}
+
+pub fn binary_operator(kind: TokenKind) -> BinaryOperator
+    ensures { result ≡ spec.binary_of kind }
+{
+    match kind {
+        TokenKind::Or => BinaryOperator::Or,
+        TokenKind::And => BinaryOperator::And,
+        TokenKind::EqualEqual => BinaryOperator::Equal,
+        TokenKind::NotEqual => BinaryOperator::NotEqual,
+        TokenKind::Less => BinaryOperator::Less,
+        TokenKind::LessEqual => BinaryOperator::LessEqual,
+        TokenKind::Greater => BinaryOperator::Greater,
+        TokenKind::GreaterEqual => BinaryOperator::GreaterEqual,
+        TokenKind::Coalesce => BinaryOperator::Coalesce,
+        TokenKind::Plus => BinaryOperator::Add,
+        TokenKind::Minus => BinaryOperator::Subtract,
+        TokenKind::Star => BinaryOperator::Multiply,
+        TokenKind::Slash => BinaryOperator::Divide,
+        _ => BinaryOperator::Remainder,
+    }
+}
+
+/// The name that a token spells.
+pub fn name(token: &Token) -> Result<Name, NoMemory>
+    ensures { IfOk result (λ name. name ≡ spec.name_of (token_face token.now)) }
+{
+    Ok(Name {
+        text: token.text.copy()?,
+        span: token.span,
+    })
+}
+
+pub fn tried(alloc: Global, mark: Option<(Span, bool)>, x: Expr) -> Result<Expr, AllocError>
+    ensures { IfOk result (λ y. y ≡ spec.tried mark x) }
+{
+    match mark {
+        None => Ok(x),
+        Some((at, is_optional)) => {
+            let form = if is_optional {
+                TryForm::Optional
+            } else {
+                TryForm::Plain
+            };
+            Ok(Expr::Try(form, at, Boxed::new(alloc, x)?))
+        }
+    }
+}
+
+pub fn awaited(alloc: Global, mark: Option<Span>, x: Expr) -> Result<Expr, AllocError>
+    ensures { IfOk result (λ y. y ≡ spec.awaited mark x) }
+{
+    match mark {
+        None => Ok(x),
+        Some(at) => Ok(Expr::Await(at, Boxed::new(alloc, x)?)),
+    }
+}
+
+/// An expression with the marks before it.
+pub fn with_marks(
+    alloc: Global,
+    try_mark: Option<(Span, bool)>,
+    await_mark: Option<Span>,
+    x: Expr,
+) -> Result<Expr, AllocError>
+    ensures { IfOk result (λ y. y ≡ spec.tried try_mark (spec.awaited await_mark x)) }
+{
+    let x = awaited(alloc, await_mark, x)?;
+    tried(alloc, try_mark, x)
+}
+
+pub fn ternary(alloc: Global, condition: Expr, x: Expr, y: Expr) -> Result<Expr, AllocError>
+    ensures { IfOk result (λ z. z ≡ Expr.Ternary condition x y) }
+{
+    let condition = Boxed::new(alloc, condition)?;
+    let x = Boxed::new(alloc, x)?;
+    let y = Boxed::new(alloc, y)?;
+    Ok(Expr::Ternary(condition, x, y))
+}
+
+/// Two operands and the mark between them.
+pub fn binary(alloc: Global, mark: &Token, left: Expr, right: Expr) -> Result<Expr, AllocError>
+    ensures { IfOk result (λ x. x ≡ Expr.Binary (spec.binary_of mark.now.kind) mark.now.span left right) }
+{
+    let left = Boxed::new(alloc, left)?;
+    let right = Boxed::new(alloc, right)?;
+    Ok(Expr::Binary(binary_operator(mark.kind), mark.span, left, right))
+}
+
+/// An operand behind its sign.
+pub fn prefix(alloc: Global, sign: &Token, x: Expr) -> Result<Expr, AllocError>
+    ensures { IfOk result (λ y. y ≡ Expr.Prefix (spec.prefix_of sign.now.kind) sign.now.span x) }
+{
+    let x = Boxed::new(alloc, x)?;
+    Ok(Expr::Prefix(prefix_operator(sign.kind), sign.span, x))
+}
+
+pub fn member(alloc: Global, base: Expr, token: &Token) -> Result<Expr, NoMemory>
+    ensures { IfOk result (λ y. y ≡ Expr.Member base (spec.name_of (token_face token.now))) }
+{
+    let member = name(token)?;
+    Ok(Expr::Member(Boxed::new(alloc, base)?, member))
+}
+
+pub fn call(
+    alloc: Global,
+    base: Expr,
+    at: Span,
+    arguments: Items<Argument>,
+) -> Result<Expr, AllocError>
+    ensures { IfOk result (λ y. y ≡ Expr.Call base at arguments) }
+{
+    Ok(Expr::Call(Boxed::new(alloc, base)?, at, arguments))
+}
+
+pub fn index(alloc: Global, base: Expr, at: Span, x: Expr) -> Result<Expr, AllocError>
+    ensures { IfOk result (λ y. y ≡ Expr.Index base at x) }
+{
+    let base = Boxed::new(alloc, base)?;
+    Ok(Expr::Index(base, at, Boxed::new(alloc, x)?))
+}
+
+pub fn force(alloc: Global, base: Expr, at: Span) -> Result<Expr, AllocError>
+    ensures { IfOk result (λ y. y ≡ Expr.Force base at) }
+{
+    Ok(Expr::Force(Boxed::new(alloc, base)?, at))
+}
+
+pub fn paren(alloc: Global, at: Span, x: Expr) -> Result<Expr, AllocError>
+    ensures { IfOk result (λ y. y ≡ Expr.Paren at x) }
+{
+    Ok(Expr::Paren(at, Boxed::new(alloc, x)?))
+}
+
+pub fn named(token: &Token) -> Result<Expr, NoMemory>
+    ensures { IfOk result (λ x. x ≡ Expr.Name (spec.name_of (token_face token.now))) }
+{
+    Ok(Expr::Name(name(token)?))
+}
+
+pub fn implicit(at: Span, token: &Token) -> Result<Expr, NoMemory>
+    ensures { IfOk result (λ x. x ≡ Expr.Implicit at (spec.name_of (token_face token.now))) }
+{
+    Ok(Expr::Implicit(at, name(token)?))
+}
+
+pub fn labelled(token: &Token, value: Expr) -> Result<Argument, NoMemory>
+    ensures { IfOk result (λ x. x ≡ record { label = Some (spec.name_of (token_face token.now)); value = value }) }
+{
+    let label = name(token)?;
+    Ok(Argument {
+        label: Some(label),
+        value,
+    })
+}

@@ -1,0 +1,43 @@
+//! The expression that the tokens of a source begin with at a place.
+
+ghost use Rattle.std.specs.Prelude.{◌≡◌, ◌<◌, length, IfOk, IfErr};
+ghost use Rattle.sw_lex.specs.Tokens.{EndsOnce};
+ghost use Rattle.sw_syntax.specs.Reading.{IntegersFit};
+ghost use Rattle.sw_syntax.specs.Refusals.{IsText, BreaksNone, IsCauseOf};
+ghost use Rattle.sw_syntax.specs.Symbols as symbol;
+ghost use Rattle.sw_syntax.specs.Tokens.{sighted};
+
+use crate::expressions::expr;
+use crate::refusal::{ROOM, broken_behind, refusal, refused_at};
+use std::alloc::Global;
+use sw_lex::Token;
+use sw_rules::FrontError;
+use sw_syntax::{Source, Stop};
+use sw_tree::Expr;
+
+/// Gives the expression that the tokens of a source spell from a place on, and the place behind it.
+///
+/// It is the longest run of tokens from there that begins an expression, if that run is one and breaks no
+/// rule together with the token behind it. Otherwise it is refused by the first of the rules `P1` to `P6`
+/// that is broken. The only other error is want of memory.
+pub fn parse_expr(alloc: Global, tokens: &[Token], at: usize) -> Result<(Expr, usize), FrontError>
+    requires inside { at < length tokens.now }
+    requires ended { EndsOnce tokens.now }
+    requires fits { IntegersFit (sighted tokens.now) }
+    ensures text { IfOk result (λ found. IsText symbol.Expr tokens.now at found.0 found.1) }
+    ensures unbroken { IfOk result (λ found. BreaksNone symbol.Expr tokens.now at) }
+    ensures refused { IfErr result (λ error. IsCauseOf symbol.Expr tokens.now at error) }
+{
+    let source = Source::new(tokens);
+    match expr(alloc, &source, false, at, ROOM) {
+        Ok((tree, end, _)) => match broken_behind(alloc, tokens, at, end)? {
+            Some((rule, place)) => Err(refusal(tokens, rule, place)),
+            None => Ok((tree, end)),
+        },
+        Err(Stop::Refused(end, is_full)) => {
+            let (rule, place) = refused_at(alloc, tokens, at, end, is_full)?;
+            Err(refusal(tokens, rule, place))
+        }
+        Err(Stop::NoMemory) => Err(FrontError::NoMemory),
+    }
+}

@@ -1,0 +1,118 @@
+-- What a reading says of the token at a place, by how far it came.
+use Rattle.std.proofs.Common.{◌≡◌, ◌<◌, ◌≤◌, ◌+◌, ◌-◌, ◌⊎◌, inl, inr, ℕ, suc, Bool, true, false, List, [], ◌∷◌, ◌++◌, drop, length, refl, sym, ap, ◌∙◌, subst, arith, length-append, append-nil, append_assoc}
+use Rattle.std.proofs.lemmas.List.{length-drop}
+use Rattle.sw_grammar.specs.Reading.{Out, got, bad, full, stuck}
+use Rattle.sw_grammar.proofs.Begun as begun
+use Rattle.sw_syntax.specs.Tokens.{Sighted, Face, face_of}
+use Rattle.sw_syntax.specs.Symbols.{Symbol, Sort}
+use Rattle.sw_syntax.specs.Grammar.{rule}
+use Rattle.sw_syntax.specs.Tables.{heads, tails, empties}
+use Rattle.sw_syntax.specs.Meaning.{Spells, Begun, Answers, source_room, read_in}
+use Rattle.sw_syntax.specs.Reading.{why}
+use Rattle.sw_syntax.specs.Refusals.{EndsAt, LacksRoom}
+use Rattle.sw_syntax.proofs.Law.{exact, begun_front}
+
+-- of two cuts of one list, the first goes beyond the token behind the second's front, or it does not
+abbrev pub Sides : {T : Type 0} → List T → List T → List T → T → List T → Type 0
+Sides {T} v r u t rest = ((w : List T) × (v ≡ (u ++ t ∷ []) ++ w) × (rest ≡ w ++ r)) ⊎ ((w : List T) × (u ≡ v ++ w) × (r ≡ w ++ t ∷ rest))
+
+pub sides : {T : Type 0} (v r u : List T) (t : T) (rest : List T) → v ++ r ≡ u ++ t ∷ rest → Sides v r u t rest
+sides [] r u t rest e = inr (u, refl, e)
+sides (x ∷ v) r [] t rest e = inl (v, cc, cc)
+sides (x ∷ v) r (y ∷ u) t rest e =
+    let same : x ≡ y = cc in
+    let less : v ++ r ≡ u ++ t ∷ rest = cc in
+    step same (sides v r u t rest less)
+  where
+    step : x ≡ y → Sides v r u t rest → Sides (x ∷ v) r (y ∷ u) t rest
+    step same (inl (w, ev, er)) = inl (w, ap (λ x. x ∷ v) same ∙ ap (λ l. y ∷ l) ev, er)
+    step same (inr (w, eu, er)) = inr (w, ap (λ y. y ∷ u) (sym same) ∙ ap (λ l. x ∷ l) eu, er)
+
+module _ (lenient : Bool) (s : Symbol) (S : List Sighted) (at : ℕ) (u : List Sighted) (t : Sighted) (rest : List Sighted) (e : drop at S ≡ u ++ t ∷ rest) where
+  abbrev Here : Type 0
+  Here = Begun lenient s source_room u
+
+  abbrev On : Type 0
+  On = Begun lenient s source_room (u ++ t ∷ [])
+
+  -- what is left behind an end is no longer than what stands behind the token, where the end is beyond it, and longer elsewhere
+  lengths : (end : ℕ) → (length (drop end S) ≡ length S - end) × (length S - at ≡ length u + suc (length rest))
+  lengths end = (length-drop end S, sym (length-drop at S) ∙ ap length e ∙ length-append u (t ∷ rest))
+
+  -- the reading came beyond the token
+  past : (v : List Sighted) (end : ℕ) → drop at S ≡ v ++ drop end S → Begun lenient s source_room v → at + length u < end → On
+  past v end e' p l = go (sides v (drop end S) u t rest (sym e' ∙ e))
+    where
+      go : Sides v (drop end S) u t rest → On
+      go (inl (w, ev, er)) = begun_front lenient s source_room (u ++ t ∷ []) w (subst (Begun lenient s source_room) ev p)
+      go (inr (w, eu, er)) = absurd (let (a, b) = lengths end in let c = ap length er ∙ length-append w (t ∷ rest) in omega (arith, l, a, b, c))
+
+  -- it came to the token and no further
+  short : (v : List Sighted) (end : ℕ) → drop at S ≡ v ++ drop end S → end ≤ at + length u → (w : List Sighted) × (u ≡ v ++ w) × (drop end S ≡ w ++ t ∷ rest)
+  short v end e' l = go (sides v (drop end S) u t rest (sym e' ∙ e))
+    where
+      go : Sides v (drop end S) u t rest → (w : List Sighted) × (u ≡ v ++ w) × (drop end S ≡ w ++ t ∷ rest)
+      go (inl (w, ev, er)) = absurd (let (a, b) = lengths end in let c = ap length er ∙ length-append w (drop end S) in omega (arith, l, a, b, c))
+      go (inr h) = h
+
+  -- it ended where u does
+  at_end : (v : List Sighted) (end : ℕ) → drop at S ≡ v ++ drop end S → end ≡ at + length u → (u ≡ v) × (drop end S ≡ t ∷ rest)
+  at_end v end e' l = go (short v end e' (omega (arith, l)))
+    where
+      go : (w : List Sighted) × (u ≡ v ++ w) × (drop end S ≡ w ++ t ∷ rest) → (u ≡ v) × (drop end S ≡ t ∷ rest)
+      go ([], eu, er) = (eu ∙ append-nil v, er)
+      go (y ∷ w, eu, er) = absurd (let (a, b) = lengths end in let c = ap length er ∙ length-append (y ∷ w) (t ∷ rest) in omega (arith, l, a, b, c))
+
+  -- where with the next token nothing is begun, not even as far as u
+  ended : (v w : List Sighted) (y : Sighted) → u ≡ v ++ y ∷ w → (Begun lenient s source_room (v ++ y ∷ []) → ⊥) → Here → ⊥
+  ended v w y eu none p = none (begun_front lenient s source_room (v ++ y ∷ []) w (subst (Begun lenient s source_room) (eu ∙ sym (append_assoc v (y ∷ []) w)) p))
+
+  ends_here : (v r : List Sighted) → (w : List Sighted) × (u ≡ v ++ w) × (r ≡ w ++ t ∷ rest) → EndsAt lenient s v r → Here → EndsAt lenient s u (t ∷ [])
+  ends_here v r ([], eu, er) ends p = subst (λ v. EndsAt lenient s v (t ∷ [])) (sym (eu ∙ append-nil v)) (subst (EndsAt lenient s v) er ends)
+  ends_here v r (y ∷ w, eu, er) ends p = absurd (ended v w y eu (subst (EndsAt lenient s v) er ends source_room) p)
+
+  spelt_begun : (v : List Sighted) (x : Sort s) → Spells lenient s source_room v x → Begun lenient s source_room v
+  spelt_begun v x = begun.spelt_begun Sighted Face Symbol Sort face_of (rule lenient) heads empties tails s source_room v x
+
+  abbrev answer : Out Sighted (Sort s) → Type 0
+  answer o = Answers lenient s source_room (drop at S) o
+
+  told : (o : Out Sighted (Sort s)) → read_in lenient s source_room (drop at S) ≡ o → answer o
+  told o is = subst (λ o. answer o) is (exact lenient s source_room (drop at S))
+
+  -- ---- a value
+
+  pub got_beyond : (x : Sort s) (c end : ℕ) → read_in lenient s source_room (drop at S) ≡ got x c (drop end S) → at + length u < end → On
+  got_beyond x c end is l = let (v, e', p, ends) = told (got x c (drop end S)) is in past v end e' (spelt_begun v x p) l
+
+  pub got_short : (x : Sort s) (c end : ℕ) → read_in lenient s source_room (drop at S) ≡ got x c (drop end S) → end ≤ at + length u → Here → EndsAt lenient s u (t ∷ [])
+  got_short x c end is l = let (v, e', p, ends) = told (got x c (drop end S)) is in ends_here v (drop end S) (short v end e' l) ends
+
+  -- ---- a refusal
+
+  refused_begun : (is_full : Bool) (place : ℕ) → read_in lenient s source_room (drop at S) ≡ bad (why is_full) (drop place S) → (v : List Sighted) × (drop at S ≡ v ++ drop place S) × Begun lenient s source_room v
+  refused_begun true place is = let (v, e', p, lacks) = told (bad full (drop place S)) is in (v, e', p)
+  refused_begun false place is = let (v, e', p, ends, none) = told (bad stuck (drop place S)) is in (v, e', p)
+
+  pub bad_beyond : (is_full : Bool) (place : ℕ) → read_in lenient s source_room (drop at S) ≡ bad (why is_full) (drop place S) → at + length u < place → On
+  bad_beyond is_full place is l = let (v, e', p) = refused_begun is_full place is in past v place e' p l
+
+  pub bad_full : (place : ℕ) → read_in lenient s source_room (drop at S) ≡ bad full (drop place S) → place ≡ at + length u → Here × LacksRoom lenient s u (t ∷ [])
+  bad_full place is l =
+      let (v, e', p, lacks) = told (bad full (drop place S)) is in
+      let (eu, er) = at_end v place e' l in
+      (subst (Begun lenient s source_room) (sym eu) p, subst (λ v. LacksRoom lenient s v (t ∷ [])) (sym eu) (subst (LacksRoom lenient s v) er lacks))
+
+  pub bad_stuck : (place : ℕ) → read_in lenient s source_room (drop at S) ≡ bad stuck (drop place S) → place ≤ at + length u → Here → EndsAt lenient s u (t ∷ [])
+  bad_stuck place is l = let (v, e', p, ends, none) = told (bad stuck (drop place S)) is in ends_here v (drop place S) (short v place e' l) ends
+
+  -- refused before the token
+  pub bad_before : (is_full : Bool) (place : ℕ) → read_in lenient s source_room (drop at S) ≡ bad (why is_full) (drop place S) → place < at + length u → Here → EndsAt lenient s u (t ∷ [])
+  bad_before false place is l = bad_stuck place is (omega (arith, l))
+  bad_before true place is l =
+      let (v, e', p, lacks) = told (bad full (drop place S)) is in
+      λ here. absurd (go v lacks here (short v place e' (omega (arith, l))))
+    where
+      go : (v : List Sighted) → LacksRoom lenient s v (drop place S) → Here → (w : List Sighted) × (u ≡ v ++ w) × (drop place S ≡ w ++ t ∷ rest) → ⊥
+      go v lacks here ([], eu, er) = let (a, b) = lengths place in let c = ap length er in omega (arith, l, a, b, c)
+      go v lacks here (y ∷ w, eu, er) = ended v w y eu (subst (LacksRoom lenient s v) er lacks).0 here

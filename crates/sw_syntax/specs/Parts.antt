@@ -1,0 +1,62 @@
+-- Parts of productions that recur: single tokens, lists with commas, brackets.
+use Rattle.std.specs.Prelude.{Bool, List, ◌∷◌}
+use Rattle.sw_base.specs.declared.ids.Span.{Span}
+use Rattle.sw_lex.specs.declared.token.TokenKind.{TokenKind}
+use Rattle.sw_lex.specs.declared.token.TokenKind.TheVariants as k
+use Rattle.sw_grammar.specs.Grammar.{Part, mark, sym, both, either, maybe, many, nest, gives, limited}
+use Rattle.sw_tree.specs.declared.expr.Name.{Name}
+use Rattle.sw_tree.specs.declared.expr.Expr.{Expr as ExprTree}
+use Rattle.sw_tree.specs.declared.types.«Type».{«Type» as TypeTree}
+use Rattle.sw_syntax.specs.Tokens.{Sighted, Face}
+use Rattle.sw_syntax.specs.Tests.{is, is_name}
+use Rattle.sw_syntax.specs.Values.{or_none, is_some, name_of}
+use Rattle.sw_syntax.specs.Symbols.{Symbol, Sort, Expr, Type'}
+
+abbrev pub P : Type 0 → Type 1
+P A = Part Sighted Face Symbol Sort A
+
+infixr 6 ◌·◌
+abbrev pub ◌·◌ : {A B : Type 0} → P A → P B → P (A × B)
+a · b = both a b
+
+infixr 5 ◌∣◌
+abbrev pub ◌∣◌ : {A : Type 0} → P A → P A → P A
+a ∣ b = either a b
+
+-- a token of the kind, and the place of one
+abbrev pub tok : TokenKind → P Face
+tok kind = mark (is kind)
+
+abbrev pub place : TokenKind → P Span
+place kind = gives (λ f. f.span) (tok kind)
+
+abbrev pub name : P Name
+name = gives name_of (mark is_name)
+
+-- whether the part is there
+abbrev pub present : {A : Type 0} → P A → P Bool
+present a = gives is_some (maybe a)
+
+-- a part behind a mark, whose own value counts for nothing
+abbrev pub behind : {A B : Type 0} → P A → P B → P B
+behind a b = gives (λ x. x.1) (a · b)
+
+-- at least one, with commas between; and any number
+abbrev pub some : {A : Type 0} → P A → P (List A)
+some a = gives (λ x. x.0 ∷ x.1) (a · many (behind (tok k.Comma) a))
+
+abbrev pub any : {A : Type 0} → P A → P (List A)
+any a = gives or_none (maybe (some a))
+
+abbrev pub in_parens : {A : Type 0} → P A → P A
+in_parens a = gives (λ x. x.1.0) (nest (tok k.LeftParen · a · tok k.RightParen))
+
+abbrev pub in_braces : {A : Type 0} → P A → P A
+in_braces a = gives (λ x. x.1.0) (nest (tok k.LeftBrace · a · tok k.RightBrace))
+
+-- an expression, or a type, that stands in no other
+abbrev pub whole_expr : P ExprTree
+whole_expr = limited (sym Expr)
+
+abbrev pub whole_type : P TypeTree
+whole_type = limited (sym Type')

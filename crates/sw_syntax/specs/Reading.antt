@@ -1,0 +1,61 @@
+-- What a function that reads answers, in the reader's terms; and the tokens that it may be given.
+use Rattle.std.specs.Prelude.{◌≡◌, ◌≤◌, ◌<◌, Bool, true, false, ℕ, List, [], ◌∷◌, drop, Option, Some, None, Result, Ok, Err}
+use Rattle.std.specs.Borrow.{Bor}
+use Rattle.sw_lex.specs.declared.token.TokenKind.TheVariants as k
+use Rattle.sw_lex.specs.declared.token.Token.{Token}
+use Rattle.sw_lex.specs.Rules.{number}
+use Rattle.sw_grammar.specs.Reading.{Why, full, stuck, Out, got, bad}
+use Rattle.sw_syntax.specs.declared.class.Sight.{Sight}
+use Rattle.sw_syntax.specs.declared.source.Stop.{Stop}
+use Rattle.sw_syntax.specs.declared.source.Stop.TheVariants.{Refused, NoMemory}
+use Rattle.sw_syntax.specs.Tokens.{Sighted, Face}
+use Rattle.sw_syntax.specs.Tests.{is}
+use Rattle.sw_syntax.specs.Sights.{token_face}
+
+-- what is seen of the first token
+abbrev pub first_sight : List Sighted → Option Sight
+first_sight [] = None
+first_sight (t ∷ ts) = Some (record { class = t.class; is_first = t.is_first; before_colon = t.before_colon })
+
+-- an integer is one that a literal holds
+abbrev pub IntegerFits : Sighted → Type 0
+IntegerFits t = is k.Integer t ≡ true → number 0 t.face.text ≤ 9223372036854775807
+
+abbrev pub IntegersFit : List Sighted → Type 0
+IntegersFit [] = Unit {0}
+IntegersFit (t ∷ ts) = IntegerFits t × IntegersFit ts
+
+abbrev pub why : Bool → Why
+why true = full
+why false = stuck
+
+-- What a function returned for the tokens from one of them on, a value with the place after it and how many more may be
+-- counted, is what reading gives, unless memory ran out.
+abbrev pub Gives : {A : Type 0} → List Sighted → Result (A × ℕ × ℕ) Stop → Out Sighted A → Type 0
+Gives ts (Ok found) out = out ≡ got (found.0) (found.2) (drop (found.1) ts)
+Gives ts (Err (Refused at is_full)) out = out ≡ bad (why is_full) (drop at ts)
+Gives ts (Err NoMemory) out = Unit {0}
+
+-- a value takes at least one token; it may take none; and its end lies in the tokens
+abbrev pub Moves : {A : Type 0} → ℕ → Result (A × ℕ × ℕ) Stop → Type 0
+Moves at (Ok found) = at < found.1
+Moves at (Err stop) = Unit {0}
+
+abbrev pub Stays : {A : Type 0} → ℕ → Result (A × ℕ × ℕ) Stop → Type 0
+Stays at (Ok found) = at ≤ found.1
+Stays at (Err stop) = Unit {0}
+
+abbrev pub Inside : {A : Type 0} → ℕ → Result (A × ℕ × ℕ) Stop → Type 0
+Inside n (Ok found) = found.1 ≤ n
+Inside n (Err stop) = Unit {0}
+
+-- a token that was met, as its face, where so many more may be counted
+abbrev pub met : ℕ → Result (Bor Token × ℕ) Stop → Result (Face × ℕ × ℕ) Stop
+met left (Ok found) = Ok (token_face (found.0.now), found.1, left)
+met left (Err stop) = Err stop
+
+-- The same of a function that takes what is read further: where it returned a value, the rest is read from there.
+abbrev pub GoesOn : {A B : Type 0} → (ℕ → A → List Sighted → Out Sighted B) → List Sighted → Result (A × ℕ × ℕ) Stop → Out Sighted B → Type 0
+GoesOn going ts (Ok found) out = out ≡ going (found.2) (found.0) (drop (found.1) ts)
+GoesOn going ts (Err (Refused at is_full)) out = out ≡ bad (why is_full) (drop at ts)
+GoesOn going ts (Err NoMemory) out = Unit {0}

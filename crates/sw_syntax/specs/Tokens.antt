@@ -1,0 +1,77 @@
+-- Tokens as the grammar sees them: what each is, with what of its text and of its neighbours makes a difference.
+use Rattle.std.specs.Prelude.{Bool, false, if◌then◌else◌, List, [], ◌∷◌, codes}
+use denote.Enum.Bare.{sameb}
+use Rattle.sw_base.specs.declared.ids.Span.{Span}
+use Rattle.sw_lex.specs.contracts.token.TokenKind.{the_type}
+use Rattle.sw_lex.specs.declared.token.TokenKind.{TokenKind}
+use Rattle.sw_lex.specs.declared.token.TokenKind.TheVariants as k
+use Rattle.sw_lex.specs.declared.token.Token.{Token}
+use Rattle.sw_lex.specs.Bytes.{Text}
+use Rattle.sw_lex.specs.Tables.{is_same_text}
+use Rattle.sw_syntax.specs.declared.class.Class.{Class}
+use Rattle.sw_syntax.specs.declared.class.Class.TheVariants.{Is, Actor, Distributed, Nonisolated, Mutating, Final, Get, GetBlock, ElseIf, TouchingBang, TouchingQuestion, SpacedQuestion, LooseMinus}
+
+unfoldable pub same_kind : TokenKind → TokenKind → Bool
+same_kind = sameb the_type
+
+-- what the tree keeps of a token
+pub record Face : Type 0 where
+  pub kind : TokenKind
+  pub text : Text
+  pub span : Span
+
+pub record Sighted : Type 0 where
+  pub class : Class
+  -- no earlier token stands on its line
+  pub is_first : Bool
+  -- the next token is `:`
+  pub before_colon : Bool
+  pub face : Face
+
+abbrev pub face_of : Sighted → Face
+face_of t = t.face
+
+-- ---- what stands behind a token
+
+-- the next token is of this kind
+abbrev pub is_next : TokenKind → List Token → Bool
+is_next kind [] = false
+is_next kind (token ∷ tokens) = same_kind token.kind kind
+
+-- nothing stands between a token and the next
+abbrev pub touches_next : List Token → Bool
+touches_next [] = false
+touches_next (token ∷ tokens) = token.touches
+
+-- ---- the class of a token, with those behind it
+
+abbrev pub class_of_name : Text → List Token → Class
+class_of_name text behind =
+    if is_same_text text (codes "actor") then Actor else
+    if is_same_text text (codes "distributed") then Distributed else
+    if is_same_text text (codes "nonisolated") then Nonisolated else
+    if is_same_text text (codes "mutating") then Mutating else
+    if is_same_text text (codes "final") then Final else
+    if is_same_text text (codes "get") then (if is_next k.LeftBrace behind then GetBlock else Get) else
+    Is k.Name
+
+abbrev pub class_in : TokenKind → Token → List Token → Class
+class_in k.Name token behind = class_of_name token.text behind
+class_in k.Else token behind = if is_next k.If behind then ElseIf else Is k.Else
+class_in k.Bang token behind = if token.touches then TouchingBang else Is k.Bang
+class_in k.Question token behind = if token.touches then TouchingQuestion else (if token.after_space then SpacedQuestion else Is k.Question)
+class_in k.Minus token behind = if touches_next behind then Is k.Minus else LooseMinus
+class_in kind token behind = Is kind
+
+abbrev pub seen : Token → List Token → Sighted
+seen token behind = record {
+  class = class_in token.kind token behind;
+  is_first = token.first_on_line;
+  before_colon = is_next k.Colon behind;
+  face = record { kind = token.kind; text = token.text; span = token.span };
+}
+
+-- a source's tokens as the grammar sees them
+abbrev pub sighted : List Token → List Sighted
+sighted [] = []
+sighted (token ∷ tokens) = seen token tokens ∷ sighted tokens

@@ -1,0 +1,14 @@
+//! The grammar of sources: a table of productions over the tokens of a source, whose values are syntax trees.
+//!
+//! `specs/Grammar` is the table. `specs/Tokens` says what the grammar sees of a token, `specs/Tests` which
+//! tokens a mark of the grammar takes, `specs/Symbols` what each symbol's texts stand for, `specs/Values`
+//! how a tree is made of its parts, and `specs/Tables` what each symbol begins and goes on with.
+#![tactic(auto)]
+
+mod class;
+mod decl_tests;
+mod source;
+
+pub use class::{Class, Sight, Test, same_kind};
+pub use decl_tests::{Opening, expect_opening, stands};
+pub use source::{Room, Source, Stop};
