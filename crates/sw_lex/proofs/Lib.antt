@@ -7,12 +7,17 @@ mod StopLemmas
 mod LargeLemmas
 mod RuleLemmas
 mod PlaceLemmas
+mod ScanLemmas
 mod RefusalLemmas
 mod HexLemmas
+mod GoodLemmas
 mod PieceLemmas
 mod RunLemmas
 mod CommentLemmas
+mod CharacterLemmas
 mod MarkLemmas
+mod SeamLemmas
 mod ReadingLemmas
 mod TellLemmas
 mod EndLemmas
+mod WholeLemmas

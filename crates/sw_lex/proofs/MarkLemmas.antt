@@ -128,7 +128,7 @@ mark_fact bytes = marked 3 marks bytes marks_fall
 
 -- ---- the longest mark is read by the code
 
-front_is : (text bytes : Text) → begins_with text bytes ≡ true → take (length text) bytes ≡ text
+pub front_is : (text bytes : Text) → begins_with text bytes ≡ true → take (length text) bytes ≡ text
 front_is text bytes h = same_text (take (length text) bytes) text (sym h)
 
 one_front : (a b bytes : Text) → begins_with a bytes ≡ true → begins_with b bytes ≡ true → length a ≡ length b → a ≡ b

@@ -44,7 +44,7 @@ run_to p (d ∷ ds) rest b h e =
     let more = run_to p ds rest b two.1 e in
     ap (λ t. cond t (1 + prefix_len p (ds ++ b ∷ rest)) 0) two.0 ∙ omega (arith, more)
 
-at_seam : (ds rest : Text) (b : ℕ) → slice_index (ds ++ b ∷ rest) (length ds) ≡ b
+pub at_seam : (ds rest : Text) (b : ℕ) → slice_index (ds ++ b ∷ rest) (length ds) ≡ b
 at_seam [] rest b = refl
 at_seam (d ∷ ds) rest b = let e : length (d ∷ ds) ≡ suc (length ds) = omega arith in ap (λ n. slice_index (d ∷ ds ++ b ∷ rest) n) e ∙ at_seam ds rest b
 

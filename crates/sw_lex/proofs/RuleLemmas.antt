@@ -1,9 +1,12 @@
 -- What is found of each rule is where it is broken first.
-use Rattle.std.proofs.Common.{◌≡◌, ◌<◌, ◌≤◌, ◌⊎◌, ℕ, ◌+◌, Bool, true, false, cond, Option, Some, None, List, [], ◌∷◌, length, drop, refl, sym, ◌∙◌, subst, arith, nat_lt}
+use Rattle.std.proofs.Common.{◌≡◌, ◌<◌, ◌≤◌, ◌⊎◌, ℕ, ◌+◌, Bool, true, false, cond, Option, Some, None, List, [], ◌∷◌, length, take, drop, refl, ap, sym, ◌∙◌, subst, arith, nat_lt}
 use Rattle.std.proofs.lemmas.Grind.{common_steps}
 use mathlib.Core.Logic.{inl, inr}
 use Rattle.std.specs.Prelude.{IfSome}
-use Rattle.std.specs.Str.{IsValidUpTo}
+use Rattle.std.specs.Str.{IsUtf8, IsValidUpTo}
+use Rattle.std.specs.Str.Lossy.{utf8_valid_len}
+use Rattle.std.proofs.lemmas.Str.{utf8_valid_len-IsUtf8, utf8_valid_len-IsValidUpTo}
+use Rattle.std.proofs.Math.Seq.{take-length}
 use Rattle.sw_rules.specs.declared.Rule.{Rule}
 use Rattle.sw_rules.specs.declared.Rule.TheVariants.{L1, L2, L3, L4, L5}
 use Rattle.sw_lex.specs.declared.forms.Begin.{Begin}
@@ -11,6 +14,9 @@ use Rattle.sw_lex.specs.declared.forms.Begin.TheVariants.{End, Gap, Token, Forml
 use Rattle.sw_lex.specs.Bytes.{Text}
 use Rattle.sw_lex.specs.Forms.{size_of, IsStop}
 use Rattle.sw_lex.specs.Cut.{Cut, CutOf, IsGood}
+use Rattle.sw_lex.specs.declared.places.Spot.{Spot}
+use Rattle.sw_lex.specs.Tokens.{place_at}
+use Rattle.sw_lex.specs.Scanning.{IsSpot, by_offset}
 use Rattle.sw_lex.specs.Rules.{Breaks, IsStopPlace, StopsAt}
 use Rattle.sw_lex.specs.Finding.{FindsTooLarge, Found, IsBefore, IsFirst, bad_found, is_too_large, large_at, large_found, long_found, stop_at, stop_found}
 use Rattle.sw_lex.proofs.OneCut.{not_short, one_length, one_whole}
@@ -63,6 +69,22 @@ bad_first source good (inl g) = let t : nat_lt good (length source) ≡ false = 
     subst (λ (b : Bool). IsFirst (BreaksBytes source) (cond b (Some (pair L1 good)) None)) (sym t) (λ rule at h. not_short source at g.1 h.1)
 bad_first source good (inr v) = let s : good < length source = v.short in let t : nat_lt good (length source) ≡ true = grind (arith, common_steps) in
     subst (λ (b : Bool). IsFirst (BreaksBytes source) (cond b (Some (pair L1 good)) None)) (sym t) ((refl, v), λ rule at h. before_of L1 rule good at h.0 (one_length source good at v h.1))
+
+-- the code has looked at all bytes, and each is part of a character
+pub bad_none : (source : Text) (at : ℕ) → IsUtf8 (take at source) → at ≡ length source → None ≡ bad_found source (utf8_valid_len source)
+bad_none source at u e =
+    let all : IsUtf8 source = subst IsUtf8 (ap (λ n. take n source) e ∙ take-length source) u in
+    let same : utf8_valid_len source ≡ length source = utf8_valid_len-IsUtf8 source all in
+    let t : nat_lt (utf8_valid_len source) (length source) ≡ false = grind (arith, common_steps, same) in
+    sym (ap (λ (b : Bool). cond b (Some (pair L1 (utf8_valid_len source))) None) t)
+
+-- it has found the first that is not
+pub bad_some : (source : Text) (at : ℕ) → IsValidUpTo source at → Some (pair L1 at) ≡ bad_found source (utf8_valid_len source)
+bad_some source at v =
+    let same : utf8_valid_len source ≡ at = utf8_valid_len-IsValidUpTo source at v in
+    let short : at < length source = v.short in
+    let t : nat_lt (utf8_valid_len source) (length source) ≡ true = grind (arith, common_steps, same, short) in
+    ap (λ n. Some (pair L1 n)) (sym same) ∙ sym (ap (λ (b : Bool). cond b (Some (pair L1 (utf8_valid_len source))) None) t)
 
 -- ---- where the cut stops
 
@@ -169,18 +191,19 @@ first_of_all source good items stop c d found g cut s h k l =
     let four = first_union (λ r o. (BreaksBytes source r o ⊎ BreaksForm source r o) ⊎ BreaksSize source r o) (BreaksLength source) d _ found three (long_first source) l in
     first_same (BreaksAny source) (Breaks source) found (any_breaks source) (breaks_any source) four
 
--- where a source is too long, what is found stands at its start
-pub first_near : (source : Text) (found : Found) → IsFirst (Breaks source) found → IfSome found (λ x. x.1 ≤ length source) → IfSome found (λ x. x.1 ≤ 1048576)
-first_near source None h k = tt
-first_near source (Some x) h k = go (nat_lt 1048576 (length source)) refl
+-- Where a source is too long, what is found stands at its start; so its place is known.
+pub first_placed : (source : Text) (found : Option (Rule × Spot)) → IsFirst (Breaks source) (by_offset found) → IfSome found (λ x. IsSpot source x.1)
+    → IfSome found (λ x. x.1.place ≡ place_at source x.1.at)
+first_placed source None h k = tt
+first_placed source (Some x) h k = go (nat_lt 1048576 (length source)) refl
   where
-    start : IsBefore x.0 x.1 L5 0 → x.1 ≤ 1048576
+    start : IsBefore x.0 x.1.at L5 0 → x.1.at ≡ 0
     start (inl p) = omega (arith, p)
     start (inr p) = omega (arith, p.0)
 
-    go : (t : Bool) → nat_lt 1048576 (length source) ≡ t → x.1 ≤ 1048576
-    go true t = let l : 1048576 < length source = grind (arith, common_steps) in start (h.1 L5 0 (refl, l))
-    go false t = let l : length source ≤ 1048576 = grind (arith, common_steps) in omega (arith, l, k)
+    go : (t : Bool) → nat_lt 1048576 (length source) ≡ t → x.1.place ≡ place_at source x.1.at
+    go true t = let l : 1048576 < length source = grind (arith, common_steps) in k.1 l ∙ ap (place_at source) (sym (start (h.1 L5 0 (refl, l))))
+    go false t = let l : length source ≤ 1048576 = grind (arith, common_steps) in k.0 l
 
 -- where nothing is found, the source is not too long
 pub first_short : (source : Text) (found : Found) → IsFirst (Breaks source) found → found ≡ None → length source ≤ 1048576

@@ -32,11 +32,14 @@ abbrev pub stop_at : ℕ → ℕ → Opens → List Begin → ℕ
 stop_at at outer opens [] = if is_inside opens then outer else at
 stop_at at outer opens (item ∷ items) = stop_at (at + size_of item) (if is_inside opens then outer else at) (after opens item) items
 
--- what has no form, or is not closed
+-- what has no form, or is not closed, where the cut stops at this offset
+abbrev pub fault_found : Begin → ℕ → Found
+fault_found Formless at = Some (L2, at)
+fault_found Unclosed at = Some (L3, at)
+fault_found stop at = None
+
 abbrev pub stop_found : Begin → List Begin → Found
-stop_found Formless items = Some (L2, stop_at 0 0 [] items)
-stop_found Unclosed items = Some (L3, stop_at 0 0 [] items)
-stop_found stop items = None
+stop_found stop items = fault_found stop (stop_at 0 0 [] items)
 
 -- an integer above the greatest
 abbrev pub is_too_large : Text → Begin → Bool

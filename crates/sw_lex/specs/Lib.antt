@@ -11,3 +11,5 @@ pub mod Lexing
 pub mod Reading
 pub mod Telling
 pub mod Finding
+pub mod Characters
+pub mod Scanning

@@ -3,6 +3,7 @@
 use Rattle.std.specs.Prelude.{◌≡◌, ◌≤◌, ℕ, zero, suc, ◌+◌, ◌-◌, Bool, true, ◌&&◌, if◌then◌else◌, ◌==◌, nat_le, nat_lt, [], ◌∷◌, ◌++◌, take, drop, length, slice_index, Option, Some, None}
 use Rattle.std.specs.Char.{encode_utf8}
 use Rattle.std.specs.List.{prefix_len}
+use Rattle.std.specs.Str.{IsUtf8}
 use Rattle.sw_lex.specs.declared.bytes.Class.TheVariants as class
 use Rattle.sw_lex.specs.declared.token.TokenKind.TheVariants as k
 use Rattle.sw_lex.specs.declared.strings.Piece.{Piece}
@@ -65,6 +66,19 @@ abbrev pub pieces : ℕ → ℕ → ℕ → Text → Strand
 pieces left before good [] = strand.Unclosed
 pieces (suc left) before good (byte ∷ bytes) = pieces left (before + 1) (good - 1) bytes
 pieces zero before good (byte ∷ bytes) = after_piece (piece good (byte ∷ bytes)) before (λ size. pieces (size - 1) (before + 1) (good - 1) bytes)
+
+-- This is what the pieces from here on begin with, and they go on behind it.
+abbrev pub GoesOn : ℕ → Text → Piece → Type 0
+GoesOn good bytes it = (before : ℕ) → pieces 0 before good bytes ≡ after_piece it before (λ size. pieces 0 (before + size) (good - size) (drop size bytes))
+
+-- how many bytes a text begins with that are not of ASCII
+abbrev pub high_len : Text → ℕ
+high_len bytes = prefix_len (λ byte. nat_le 128 byte) bytes
+
+-- a plain piece is made of characters
+abbrev pub IsGoodPiece : Text → Piece → Type 0
+IsGoodPiece bytes (Plain size) = IsUtf8 (take size bytes)
+IsGoodPiece bytes it = Unit {0}
 
 -- ---- the text of a string
 

@@ -3,6 +3,7 @@
 ghost use Rattle.std.specs.Prelude.{◌≡◌, ◌≢◌, ◌<◌, ◌≤◌, length, slice_index, true};
 ghost use Rattle.std.specs.List.{prefix_len};
 ghost use Rattle.sw_lex.specs.Bytes.{has_line_end, is_in};
+ghost use Rattle.sw_lex.specs.Cut.{IsGood};
 
 /// A class of bytes that tokens are made of.
 #[derive(Clone, Copy, Debug, PartialEq, Eq)]
@@ -64,4 +65,14 @@ pub fn has_line_end(bytes: &[u8]) -> bool
     ensures { result ≡ has_line_end bytes.now }
 {
     bytes.contains(&b'\n')
+}
+
+/// How many bytes are the longest front that is UTF-8.
+pub fn good_front(source: &[u8]) -> usize
+    ensures { IsGood source.now result }
+{
+    match str::from_utf8(source) {
+        Ok(_) => source.len(),
+        Err(error) => error.valid_up_to(),
+    }
 }

@@ -1,9 +1,10 @@
 //! What begins at a place of a source.
 
-ghost use Rattle.std.specs.Prelude.{◌≡◌, ◌≤◌, ℕ, ◌-◌, Some, IfSome, drop, length, slice_index, true};
+ghost use Rattle.std.specs.Prelude.{◌≡◌, ◌<◌, ◌≤◌, ℕ, ◌-◌, Some, IfSome, drop, length, slice_index, true};
 ghost use Rattle.std.specs.List.{prefix_len};
 ghost use Rattle.sw_lex.specs.Bytes.{is_in};
 ghost use Rattle.sw_lex.specs.Forms as spec;
+ghost use Rattle.sw_lex.specs.Characters.{good_ahead};
 ghost use Rattle.sw_lex.specs.Reading as reading;
 
 use crate::bytes::{Class, byte_at, has_line_end, is_in, run_len};
@@ -80,12 +81,13 @@ fn named(bytes: &[u8]) -> Begin
 }
 
 /// The string that begins a text with its quote.
-fn quoted(bytes: &[u8], good: usize) -> Begin
-    requires { 1 ≤ length bytes.now }
-    ensures value { result ≡ reading.quoted (reading.pieces 0 1 (good - 1) (drop 1 bytes.now)) }
+fn quoted(bytes: &[u8], fine: bool) -> Begin
+    requires some { 1 ≤ length bytes.now }
+    requires ascii { slice_index bytes.now 0 < 128 }
+    ensures value { result ≡ reading.quoted (reading.pieces 0 1 (good_ahead fine bytes.now - 1) (drop 1 bytes.now)) }
     ensures within { reading.IsWithin result (length bytes.now) }
 {
-    match pieces(bytes, good.saturating_sub(1)) {
+    match pieces(bytes, fine) {
         Strand::Closed(size) => Begin::Token(TokenKind::StringWhole, size),
         Strand::Opened(size) => Begin::Token(TokenKind::StringStart, size),
         Strand::Formless => Begin::Formless,
@@ -94,12 +96,13 @@ fn quoted(bytes: &[u8], good: usize) -> Begin
 }
 
 /// The string that goes on with the `)` that begins a text.
-fn resumed(bytes: &[u8], good: usize) -> Begin
-    requires { 1 ≤ length bytes.now }
-    ensures value { result ≡ reading.resumed (reading.pieces 0 1 (good - 1) (drop 1 bytes.now)) }
+fn resumed(bytes: &[u8], fine: bool) -> Begin
+    requires some { 1 ≤ length bytes.now }
+    requires ascii { slice_index bytes.now 0 < 128 }
+    ensures value { result ≡ reading.resumed (reading.pieces 0 1 (good_ahead fine bytes.now - 1) (drop 1 bytes.now)) }
     ensures within { reading.IsWithin result (length bytes.now) }
 {
-    match pieces(bytes, good.saturating_sub(1)) {
+    match pieces(bytes, fine) {
         Strand::Closed(size) => Begin::Token(TokenKind::StringLast, size),
         Strand::Opened(size) => Begin::Token(TokenKind::StringMiddle, size),
         Strand::Formless => Begin::Formless,
@@ -113,11 +116,11 @@ fn has_three_quotes(bytes: &[u8]) -> bool
     byte_at(bytes, 0) == b'"' && byte_at(bytes, 1) == b'"' && byte_at(bytes, 2) == b'"'
 }
 
-/// What begins a text, inside of a string or not, where `)` closes a `\(` or not, and the first `good`
-/// bytes are characters.
+/// What begins a text, inside of a string or not, where `)` closes a `\(` or not, and all bytes before
+/// are characters or not.
 #[tactic(auto, unfolding(crate::specs::Reading::begins))]
-pub fn begins(bytes: &[u8], inside: bool, closes: bool, good: usize) -> Begin
-    ensures value { result ≡ reading.begins inside closes good bytes.now }
+pub fn begins(bytes: &[u8], inside: bool, closes: bool, fine: bool) -> Begin
+    ensures value { result ≡ reading.begins inside closes (good_ahead fine bytes.now) bytes.now }
     ensures within { reading.IsWithin result (length bytes.now) }
 {
     if bytes.is_empty() {
@@ -140,10 +143,10 @@ pub fn begins(bytes: &[u8], inside: bool, closes: bool, good: usize) -> Begin
         if has_three_quotes(bytes) {
             Begin::Formless
         } else {
-            quoted(bytes, good)
+            quoted(bytes, fine)
         }
     } else if first == b')' && closes {
-        resumed(bytes, good)
+        resumed(bytes, fine)
     } else {
         mark(bytes)
     }

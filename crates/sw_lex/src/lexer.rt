@@ -5,10 +5,8 @@ ghost use Rattle.sw_lex.specs.Tokens.{CutsInto, EndsOnce};
 ghost use Rattle.sw_lex.specs.Rules.{BreaksNone};
 ghost use Rattle.sw_lex.specs.Lexing.{IsCauseOf, IsOnlyCut};
 
-use crate::broken::{first_broken, good_front};
-use crate::cutting::cut;
-use crate::places::{ORIGIN, moved};
-use crate::telling::tokens_of;
+use crate::broken::first_broken;
+use crate::scan::Scan;
 use crate::token::Token;
 use std::alloc::Global;
 use sw_base::Items;
@@ -18,7 +16,7 @@ use sw_rules::{FrontError, Refusal};
 ///
 /// It is refused exactly where it breaks one of the rules `L1` to `L5`, by the first that it breaks:
 /// the least by place, and of one place the first by order. The only other error is want of memory.
-/// The time is linear in the bytes.
+/// It reads the source once, from its start on, and the time is linear in the bytes.
 pub fn lex(alloc: Global, source: &[u8]) -> Result<Items<Token>, FrontError>
     ensures tokens { IfOk result (λ tokens. CutsInto source.now tokens) }
     ensures only { IfOk result (λ tokens. IsOnlyCut source.now tokens) }
@@ -26,13 +24,12 @@ pub fn lex(alloc: Global, source: &[u8]) -> Result<Items<Token>, FrontError>
     ensures unbroken { IfOk result (λ tokens. BreaksNone source.now) }
     ensures refused { IfErr result (λ error. IsCauseOf source.now error) }
 {
-    let good = good_front(source);
-    let (items, stop) = cut(alloc, source, good)?;
-    match first_broken(alloc, source, good, &items, stop)? {
-        None => Ok(tokens_of(alloc, source, &items)?),
-        Some((rule, at)) => Err(FrontError::Refused(Refusal {
+    let (scan, stop) = Scan::read(alloc, source)?;
+    match first_broken(&scan, source, stop) {
+        None => Ok(scan.told.ended(alloc, source.len())?),
+        Some((rule, spot)) => Err(FrontError::Refused(Refusal {
             rule,
-            span: moved(ORIGIN, &source[..at]),
+            span: spot.place,
         })),
     }
 }

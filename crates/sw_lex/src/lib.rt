@@ -3,16 +3,18 @@
 //! `lex` is the one call. The definitions that its contract cites are in `specs/`: the pieces of a string
 //! (`Strings`), comments (`Comments`), what begins at a place (`Forms`), the cut of a source (`Cut`), its
 //! tokens (`Tokens`) and its broken rules (`Rules`). They are relations, and know nothing of the code.
-//! `Reading`, `Telling` and `Finding` follow the code, for the contracts of private functions alone; lemmas
-//! in `proofs/` show that both say the same.
+//! `Reading`, `Characters`, `Telling`, `Finding` and `Scanning` follow the code, for the contracts of private
+//! functions alone; lemmas in `proofs/` show that both say the same.
 #![tactic(auto)]
 
+mod brackets;
 mod broken;
 mod bytes;
-mod cutting;
 mod forms;
 mod lexer;
+mod limits;
 mod places;
+mod scan;
 mod strings;
 mod tables;
 mod telling;

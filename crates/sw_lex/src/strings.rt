@@ -1,10 +1,11 @@
 //! The pieces of strings: where they end, and what they stand for.
 
-ghost use Rattle.std.specs.Prelude.{◌≡◌, ◌≤◌, ◌<◌, ◌+◌, ◌^◌, ◌++◌, IfOk, OnOk, drop, length, min};
+ghost use Rattle.std.specs.Prelude.{◌≡◌, ◌≤◌, ◌<◌, ◌+◌, ◌-◌, ◌^◌, ◌++◌, IfOk, OnOk, drop, length, min, slice_index, true};
 ghost use Rattle.sw_lex.specs.Strings as spec;
+ghost use Rattle.sw_lex.specs.Characters.{good_ahead};
 ghost use Rattle.sw_lex.specs.Reading as reading;
 
-use crate::bytes::{Class, byte_at, run_len};
+use crate::bytes::{Class, byte_at, good_front, run_len};
 use std::alloc::Global;
 use sw_base::{NoMemory, Text};
 
@@ -101,9 +102,44 @@ fn escape(bytes: &[u8]) -> Piece
     }
 }
 
-fn piece_at(bytes: &[u8], good: usize) -> Piece
-    ensures value { result ≡ reading.piece good bytes.now }
+/// How many bytes a text begins with that are not of ASCII.
+fn high_len(bytes: &[u8]) -> usize
+    ensures value { result ≡ reading.high_len bytes.now }
+    ensures within { result ≤ length bytes.now }
+{
+    let mut end = 0;
+    while end < bytes.len() && 128 <= bytes[end] {
+        end += 1;
+    }
+    end
+}
+
+/// The characters that begin a text, up to the next byte of ASCII, where all bytes before are characters
+/// or not.
+fn characters(bytes: &[u8], fine: bool) -> Piece
+    requires some { 0 < length bytes.now }
+    requires high { 128 ≤ slice_index bytes.now 0 }
+    ensures value { reading.GoesOn (good_ahead fine bytes.now) bytes.now result }
     ensures within { reading.IsPieceWithin result (length bytes.now) }
+    ensures good { fine ≡ true → reading.IsGoodPiece bytes.now result }
+{
+    if !fine {
+        return Piece::NoForm;
+    }
+    let good = good_front(&bytes[..high_len(bytes)]);
+    if good == 0 {
+        Piece::NoForm
+    } else {
+        Piece::Plain(good)
+    }
+}
+
+/// The piece that begins a text, where all bytes before are characters or not. Characters beyond ASCII
+/// that follow each other are taken as one.
+fn piece_at(bytes: &[u8], fine: bool) -> Piece
+    ensures value { reading.GoesOn (good_ahead fine bytes.now) bytes.now result }
+    ensures within { reading.IsPieceWithin result (length bytes.now) }
+    ensures good { fine ≡ true → reading.IsGoodPiece bytes.now result }
 {
     match bytes {
         [] => Piece::LineEnd,
@@ -112,21 +148,22 @@ fn piece_at(bytes: &[u8], good: usize) -> Piece
             b'\n' => Piece::LineEnd,
             b'\r' => Piece::NoForm,
             b'\\' => escape(rest),
-            byte if 128 <= byte && good == 0 => Piece::NoForm,
+            byte if 128 <= byte => characters(bytes, fine),
             _ => Piece::Plain(1),
         },
     }
 }
 
-/// The pieces behind the first byte, where `good` bytes from there on are characters.
-pub fn pieces(bytes: &[u8], good: usize) -> Strand
-    requires { 1 ≤ length bytes.now }
-    ensures value { result ≡ reading.pieces 0 1 good (drop 1 bytes.now) }
+/// The pieces behind the first byte, which is of ASCII, where all bytes before are characters or not.
+pub fn pieces(bytes: &[u8], fine: bool) -> Strand
+    requires some { 1 ≤ length bytes.now }
+    requires ascii { slice_index bytes.now 0 < 128 }
+    ensures value { result ≡ reading.pieces 0 1 (good_ahead fine bytes.now - 1) (drop 1 bytes.now) }
     ensures within { reading.IsStrandWithin result (length bytes.now) }
 {
     let mut at = 1;
     'pieces: loop {
-        match piece_at(&bytes[at..], good.saturating_sub(at - 1)) {
+        match piece_at(&bytes[at..], fine) {
             Piece::Plain(size) => at += size,
             Piece::Quote => return Strand::Closed(at + 1),
             Piece::Open => return Strand::Opened(at + 2),

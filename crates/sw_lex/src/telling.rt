@@ -1,15 +1,17 @@
-//! The tokens of a cut.
+//! The tokens of a cut, each told as it is cut.
 
-ghost use Rattle.std.specs.Prelude.{◌≡◌, ◌≤◌, ◌<◌, ◌+◌, ◌^◌, ◌++◌, IfOk, OnOk, length};
+ghost use Rattle.std.specs.Prelude.{◌≡◌, ◌≤◌, ◌<◌, ◌+◌, ◌^◌, ◌++◌, [], ◌∷◌, IfOk, OnOk, drop, length, take};
 ghost use Rattle.sw_lex.specs.Reading.{decoded};
 ghost use Rattle.sw_lex.specs.Forms.{size_of};
-ghost use Rattle.sw_lex.specs.Cut.{total};
+ghost use Rattle.sw_lex.specs.Scanning.{IsNear};
 ghost use Rattle.sw_lex.specs.Tokens as spec;
 ghost use Rattle.sw_lex.specs.Telling as telling;
+ghost use Rattle.sw_lex.specs.Scanning as scanning;
 
 use crate::bytes::{Class, byte_at, is_in};
 use crate::forms::{Begin, size_of};
-use crate::places::{ORIGIN, end_place, moved};
+use crate::limits::MOST_BYTES;
+use crate::places::{ORIGIN, behind, end_place, moved};
 use crate::strings::decoded;
 use crate::token::{Token, TokenKind};
 use std::alloc::Global;
@@ -26,6 +28,16 @@ pub struct Here {
     pub touching: bool,
     /// White space ends here.
     pub spaced: bool,
+}
+
+/// What is told of a source that is not too long.
+#[derive(Debug, Drop)]
+pub struct Told {
+    pub tokens: Items<Token>,
+    /// What the next token takes from them.
+    pub here: Here,
+    /// The place of the last byte so far, if there is one.
+    pub last: Span,
 }
 
 /// The text of a string's pieces, without its first byte and its last bytes.
@@ -67,27 +79,25 @@ fn token_at(place: Span, here: Here, kind: TokenKind, text: Text) -> Token
     }
 }
 
-/// Tells the token that begins a text, if one does, and gives what the next one takes from it.
+/// Tells the token that begins a text, if one does, and gives what the next one takes from it, where
+/// the place behind is known.
 fn tell(
     alloc: Global,
     tokens: &mut Items<Token>,
     here: Here,
+    next: Span,
     bytes: &[u8],
     item: Begin,
 ) -> Result<Here, NoMemory>
     requires within { size_of item ≤ length bytes.now }
-    requires lines { here.place.line + length bytes.now < 2 ^ 32 }
-    requires columns { here.place.column + length bytes.now < 2 ^ 32 }
-    requires counts { 1 ≤ here.place.column }
+    requires short { length bytes.now < 2 ^ 62 }
+    requires next { next ≡ spec.moved here.place (take (size_of item) bytes.now) }
     ensures tokens { OnOk result (tokens.new ≡ tokens.old ++ telling.said here bytes.now item) }
     ensures here { IfOk result (λ next. next ≡ spec.beyond here bytes.now item) }
-    ensures line { IfOk result (λ next. next.place.line ≤ here.place.line + size_of item) }
-    ensures column { IfOk result (λ next. next.place.column ≤ here.place.column + size_of item) }
-    ensures counts { IfOk result (λ next. 1 ≤ next.place.column) }
 {
     match item {
-        Begin::Gap(size) => Ok(Here {
-            place: moved(here.place, &bytes[..size]),
+        Begin::Gap(_) => Ok(Here {
+            place: next,
             last_line: here.last_line,
             touching: false,
             spaced: is_in(Class::Space, byte_at(bytes, 0)),
@@ -96,7 +106,7 @@ fn tell(
             let text = text_of(alloc, kind, &bytes[..size])?;
             tokens.push(token_at(here.place, here, kind, text))?;
             Ok(Here {
-                place: moved(here.place, &bytes[..size]),
+                place: next,
                 last_line: here.place.line,
                 touching: true,
                 spaced: false,
@@ -106,26 +116,71 @@ fn tell(
     }
 }
 
-/// The tokens of a cut, and one for the end of the source.
-pub fn tokens_of(alloc: Global, source: &[u8], items: &[Begin]) -> Result<Items<Token>, NoMemory>
-    requires within { total items.now ≤ length source.now }
-    requires short { length source.now < 2 ^ 31 }
-    ensures { IfOk result (λ tokens. tokens ≡ telling.tokens_of source.now items.now) }
-{
-    let mut tokens = Items::new(alloc);
-    let end = end_place(source);
-    let mut at = 0;
-    let mut here = Here {
-        place: ORIGIN,
-        last_line: 0,
-        touching: false,
-        spaced: false,
-    };
-    for item in items {
-        here = tell(alloc, &mut tokens, here, &source[at..], *item)?;
-        at += size_of(*item);
+impl Told {
+    /// Nothing is told yet.
+    pub fn new(alloc: Global) -> Told
+        ensures { result ≡ scanning.nothing_told }
+    {
+        Told {
+            tokens: Items::new(alloc),
+            here: Here {
+                place: ORIGIN,
+                last_line: 0,
+                touching: false,
+                spaced: false,
+            },
+            last: ORIGIN,
+        }
     }
-    let text = Text::from_bytes(alloc, &[])?;
-    tokens.push(token_at(end, here, TokenKind::End, text))?;
-    Ok(tokens)
+
+    /// Goes behind the gap or token that begins the bytes, and tells it.
+    fn go_behind(&mut self, alloc: Global, bytes: &[u8], item: Begin) -> Result<(), NoMemory>
+        requires some { 1 ≤ size_of item }
+        requires within { size_of item ≤ length bytes.now }
+        requires lines { self.old.here.place.line + length bytes.now < 2 ^ 32 }
+        requires columns { self.old.here.place.column + length bytes.now < 2 ^ 32 }
+        ensures { OnOk result (self.new ≡ scanning.told_behind self.old bytes.now item) }
+    {
+        let size = size_of(item);
+        let last = moved(self.here.place, &bytes[..size - 1]);
+        let next = behind(last, bytes[size - 1]);
+        let here = tell(alloc, &mut self.tokens, self.here, next, bytes, item)?;
+        self.here = here;
+        self.last = last;
+        Ok(())
+    }
+
+    /// Does so where the source is not too long. The tokens of one that is are never asked for.
+    pub fn go_on(
+        &mut self,
+        alloc: Global,
+        source: &[u8],
+        at: usize,
+        item: Begin,
+    ) -> Result<(), NoMemory>
+        requires some { 1 ≤ size_of item }
+        requires within { at + size_of item ≤ length source.now }
+        requires near { IsNear at self.old.here.place }
+        ensures short { OnOk result (length source.now ≤ 1048576
+            → self.new ≡ scanning.told_behind self.old (drop at source.now) item) }
+        ensures long { OnOk result (1048576 < length source.now → self.new ≡ self.old) }
+    {
+        if MOST_BYTES < source.len() {
+            return Ok(());
+        }
+        self.go_behind(alloc, &source[at..], item)
+    }
+
+    /// The tokens, and one for the end of the source, which has so many bytes.
+    pub fn ended(self, alloc: Global, size: usize) -> Result<Items<Token>, NoMemory>
+        requires { 0 < size → self.last.column + 1 < 2 ^ 32 }
+        ensures { IfOk result (λ tokens. tokens ≡ self.tokens
+            ++ spec.token_at (scanning.end_of size self.last) self.here TokenKind.End [] ∷ []) }
+    {
+        let end = end_place(size, self.last);
+        let text = Text::from_bytes(alloc, &[])?;
+        let mut tokens = self.tokens;
+        tokens.push(token_at(end, self.here, TokenKind::End, text))?;
+        Ok(tokens)
+    }
 }

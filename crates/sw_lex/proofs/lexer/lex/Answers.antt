@@ -1,59 +1,34 @@
-use Rattle.std.proofs.Common.{◌≡◌, [], List, None, Some, ap, sym, subst, ◌∙◌}
+use Rattle.std.proofs.Common.{List, sym, ◌∙◌, subst, arith, refl}
+use Rattle.std.specs.Str.Lossy.{utf8_valid_len}
 use Rattle.sw_lex.specs.declared.token.Token.{Token}
-use Rattle.sw_lex.specs.Cut.{CutOf}
-use Rattle.sw_lex.specs.Tokens.{AreTokens, EndsOnce, end_place, start}
-use Rattle.sw_lex.specs.Telling.{tokens_of}
-use Rattle.sw_lex.proofs.TellLemmas.{told_tokens}
-use Rattle.sw_lex.specs.Rules.{Breaks}
-use Rattle.sw_lex.specs.Finding.{Found, IsFirst}
-use Rattle.sw_lex.proofs.OneCut.{one_list}
-use Rattle.sw_lex.proofs.EndLemmas.{told_ends_once}
-use Rattle.sw_lex.proofs.RuleLemmas.{stops_at_end}
-use Rattle.sw_lex.proofs.FirstLemmas.{pair}
+use Rattle.sw_lex.specs.Tokens.{CutsInto, EndsOnce}
+use Rattle.sw_lex.proofs.CharacterLemmas.{good_is}
 use Rattle.sw_lex.proofs.RefusalLemmas.{first_refusal}
+use Rattle.sw_lex.proofs.WholeLemmas.{cuts_into, ends_once, last_near, only_cut}
 use Rattle.sw_lex.proofs.lexer.lex.Goals as goal
 
-pub returns-in-None-clause-tokens : goal.returns-in-None-clause-tokens
-returns-in-None-clause-tokens c =
-    let source = c.args.source.now in
-    let whole : CutOf source = record {
-      good = c.good_front-good.result;
-      items = c.in_ok-items.items.items;
-      stop = c.in_ok-items.stop;
-      front = c.good_front-good.ensures;
-      cut = c.in_ok-items.ensures.cut;
-    } in
-    let nothing : c.in_ok-first_broken.field-0 ≡ None = c.in-None.is in
-    let unbroken : IsFirst (Breaks source) None = subst (λ (found : Found). IsFirst (Breaks source) found) nothing c.in_ok-first_broken.ensures.first in
-    let same : c.in_ok-tokens_of-in-None.field-0 ≡ tokens_of source c.in_ok-items.items.items =
-    c.in_ok-tokens_of-in-None.ensures ∙ ap (λ items. tokens_of source items) c.deref-in-None.ensures.value in
-    record {
-      whole = whole;
-      to_end = stops_at_end source whole c.in_ok-items.ensures.stop unbroken;
-      same = subst (λ (tokens : List Token). AreTokens (end_place source) start c.good_front-good.result source c.in_ok-items.items.items tokens) (sym same)
-          (told_tokens (end_place source) start [] c.good_front-good.result source c.in_ok-items.items.items c.in_ok-items.stop c.in_ok-items.ensures.cut);
-    }
+pub ended-requires : goal.ended-requires
+ended-requires c = last_near c.args.source.now c.in_ok-scan.scan c.in_ok-scan.stop c.in_ok-scan.ensures c.in-None.ensures.first (c.in-None.ensures.short refl)
 
-pub returns-in-None-clause-only : goal.returns-in-None-clause-only
-returns-in-None-clause-only c =
+pub returns-in_ok-ended-in-None-clause-tokens : goal.returns-in_ok-ended-in-None-clause-tokens
+returns-in_ok-ended-in-None-clause-tokens c =
     let source = c.args.source.now in
-    let same : c.in_ok-tokens_of-in-None.field-0 ≡ tokens_of source c.in_ok-items.items.items =
-    c.in_ok-tokens_of-in-None.ensures ∙ ap (λ items. tokens_of source items) c.deref-in-None.ensures.value in
-    λ others h. one_list source c.good_front-good.result c.in_ok-items.items.items c.in_ok-items.stop c.good_front-good.ensures c.in_ok-items.ensures.cut others h ∙ sym same
+    subst (λ (tokens : List Token). CutsInto source tokens) (sym c.in_ok-ended-in-None.ensures)
+    (cuts_into source c.in_ok-scan.scan c.in_ok-scan.stop c.in_ok-scan.ensures c.in-None.ensures.first (c.in-None.ensures.short refl))
 
-pub returns-in-None-clause-ended : goal.returns-in-None-clause-ended
-returns-in-None-clause-ended c =
-    let source = c.args.source.now in
-    let same : c.in_ok-tokens_of-in-None.field-0 ≡ tokens_of source c.in_ok-items.items.items =
-    c.in_ok-tokens_of-in-None.ensures ∙ ap (λ items. tokens_of source items) c.deref-in-None.ensures.value in
-    let ends : EndsOnce (tokens_of source c.in_ok-items.items.items) =
-    told_ends_once (end_place source) start [] c.good_front-good.result source c.in_ok-items.items.items c.in_ok-items.stop c.in_ok-items.ensures.cut in
-    subst (λ (tokens : List Token). EndsOnce tokens) (sym same) ends
+pub returns-in_ok-ended-in-None-clause-only : goal.returns-in_ok-ended-in-None-clause-only
+returns-in_ok-ended-in-None-clause-only c = λ others h.
+    only_cut c.args.source.now c.in_ok-scan.scan c.in_ok-scan.stop c.in_ok-scan.ensures c.in-None.ensures.first (c.in-None.ensures.short refl) others h
+    ∙ sym c.in_ok-ended-in-None.ensures
 
-pub returns-clause-refused : goal.returns-clause-refused
-returns-clause-refused c =
+pub returns-in_ok-ended-in-None-clause-ended : goal.returns-in_ok-ended-in-None-clause-ended
+returns-in_ok-ended-in-None-clause-ended c =
+    subst (λ (tokens : List Token). EndsOnce tokens) (sym c.in_ok-ended-in-None.ensures)
+    (ends_once c.args.source.now c.in_ok-scan.scan c.in_ok-scan.stop c.in_ok-scan.ensures c.in-None.ensures.first (c.in-None.ensures.short refl))
+
+pub returns-in-Some-clause-refused : goal.returns-in-Some-clause-refused
+returns-in-Some-clause-refused c =
     let source = c.args.source.now in
-    let found : c.in_ok-first_broken.field-0 ≡ Some (pair c.in-Some.rule c.in-Some.at) = c.in-Some.is in
-    let first : IsFirst (Breaks source) (Some (pair c.in-Some.rule c.in-Some.at)) = subst (λ (found : Found). IsFirst (Breaks source) found) found c.in_ok-first_broken.ensures.first in
-    first_refusal source c.good_front-good.result c.in_ok-items.items.items c.in_ok-items.stop c.good_front-good.ensures c.in_ok-items.ensures.cut c.in_ok-items.ensures.within
-    c.in-Some.rule c.in-Some.at c.moved.result first c.moved.ensures.value
+    let read = c.in_ok-scan.ensures in
+    first_refusal source (utf8_valid_len source) read.items c.in_ok-scan.stop (good_is source) read.cut (omega (arith, read.ends, read.inside))
+    c.in-Some.rule c.in-Some.spot.at c.in-Some.spot.place c.in-Some.ensures.first c.in-Some.ensures.place

@@ -4,8 +4,7 @@ use Rattle.sw_lex.proofs.places.moved.Given as goal
 
 abbrev pub invariant-loop-byte : goal.invariant-loop-byte
 invariant-loop-byte l = record {
-  so_far : spec.moved (record { line = l.line; column = l.column }) (drop l.byte-index l.bytes) ≡ spec.moved l.fn.place l.bytes;
-  line : l.line ≤ l.fn.place.line + l.byte-index;
-  column : l.column ≤ l.fn.place.column + l.byte-index;
-  counts : 1 ≤ l.column;
+  so_far : spec.moved l.place (drop l.byte-index l.bytes) ≡ spec.moved l.fn.place l.bytes;
+  line : l.place.line ≤ l.fn.place.line + l.byte-index;
+  column : l.place.column ≤ l.fn.place.column + l.byte-index;
 }

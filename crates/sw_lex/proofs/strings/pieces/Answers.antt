@@ -1,19 +1,28 @@
-use Rattle.std.proofs.Common.{arith, ◌≡◌, ◌+◌, ◌-◌, drop, sym, ap, ◌∙◌}
-use Rattle.std.proofs.lemmas.List.{take_rest, drop-drop}
+use Rattle.std.proofs.Common.{◌≡◌, ◌≤◌, ◌∙◌, ap, arith, drop, length, take, true}
+use Rattle.std.proofs.lemmas.List.{take_rest}
+use Rattle.std.specs.Str.{IsUtf8}
 use Rattle.sw_lex.specs.declared.strings.Piece.TheVariants.{Plain}
-use Rattle.sw_lex.specs.Reading.{piece, pieces}
-use Rattle.sw_lex.proofs.StringLemmas.{pieces-plain}
+use Rattle.sw_lex.specs.Characters.{good_ahead}
+use Rattle.sw_lex.specs.Reading.{GoesOn, pieces}
+use Rattle.sw_lex.proofs.GoodLemmas.{ahead_more, one_utf8, run_on}
 use Rattle.sw_lex.proofs.strings.pieces.Goals as goal
+
+pub pieces-init : goal.pieces-init
+pieces-init c =
+    let bytes = c.args.bytes.now in
+    record {
+      so_far = ap (λ n. pieces 0 1 n (drop 1 bytes)) (ahead_more c.args.fine bytes 1 (λ fine. one_utf8 bytes (omega arith) c.requires.ascii) c.requires.some);
+      inside = c.requires.some;
+    }
 
 pub pieces-preserved : goal.pieces-preserved
 pieces-preserved c =
     let bytes = c.args.bytes.now in
     let at = c.pieces.at in
-    let size = c.in-Plain.size in
-    let good = c.args.good in
-    let here : piece (good - (at - 1)) (drop at bytes) ≡ Plain size = cc (take_rest bytes at) in
-    let fewer : good - (at - 1) - size ≡ good - (at + size - 1) = omega arith in
-    let goes : pieces 0 at (good - (at - 1)) (drop at bytes) ≡ pieces 0 (at + size) (good - (at + size - 1)) (drop (at + size) bytes) =
-    pieces-plain at (good - (at - 1)) size (drop at bytes) here (omega (arith, c.in-Plain.ensures.within))
-    ∙ ap (λ rest. pieces 0 (at + size) rest (drop size (drop at bytes))) fewer ∙ ap (λ rest. pieces 0 (at + size) (good - (at + size - 1)) rest) (drop-drop size at bytes) in
-    record { so_far = sym goes ∙ c.pieces.invariant.so_far; behind = omega arith; inside = grind arith }
+    let on : GoesOn (good_ahead c.args.fine (drop at bytes)) (drop at bytes) (Plain c.in-Plain.size) = rw take_rest at c.in-Plain.ensures.value in
+    let chars : c.args.fine ≡ true → IsUtf8 (take c.in-Plain.size (drop at bytes)) = rw take_rest at c.in-Plain.ensures.good in
+    let within : c.in-Plain.size ≤ length (drop at bytes) = rw take_rest at (c.in-Plain.ensures.within.1) in
+    record {
+      so_far = run_on c.args.fine bytes at c.in-Plain.size on chars within ∙ c.pieces.invariant.so_far;
+      inside = grind arith;
+    }

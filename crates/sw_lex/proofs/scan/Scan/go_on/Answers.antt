@@ -1,0 +1,36 @@
+use Rattle.std.proofs.Common.{◌≡◌, ◌+◌, ◌∙◌, ap, drop, subst, sym}
+use Rattle.std.proofs.lemmas.List.{take_rest}
+use Rattle.sw_lex.specs.declared.places.Spot.{Spot}
+use Rattle.sw_lex.specs.Characters.{IsFront, IsSeam}
+use Rattle.sw_lex.specs.Forms.{size_of}
+use Rattle.sw_lex.specs.Scanning.{first_large, outermost}
+use Rattle.sw_lex.proofs.ScanLemmas.{known_more, next_seam, spot_near}
+use Rattle.sw_lex.proofs.scan.Scan.go_on.Goals as goal
+
+pub go_on-requires-clause-near : goal.go_on-requires-clause-near
+go_on-requires-clause-near c = spot_near c.args.source.now c.args.self.now.at c.args.self.now.told.here.place c.requires.known.places.here
+
+pub first_bad-self-requires-clause-seam : goal.first_bad-self-requires-clause-seam
+first_bad-self-requires-clause-seam c =
+    let source = c.args.source.now in
+    let at : c.args.self.now.at ≡ c.here-here.result.at = sym (ap (λ (spot : Spot). spot.at) c.here-here.ensures) in
+    let size : size_of c.args.item ≡ c.size_of-size.result = sym c.size_of-size.ensures.value in
+    subst (λ n. IsSeam (drop n source) c.size_of-size.result) at
+    (subst (λ n. IsSeam (drop c.args.self.now.at source) n) size (next_seam source c.args.self.now c.args.item c.requires.next c.requires.some))
+
+pub returns-clause-known : goal.returns-clause-known
+returns-clause-known c =
+    let source = c.args.source.now in
+    let scan = c.args.self.now in
+    let ends : c.here-here.result.at + c.size_of-size.result ≡ scan.at + size_of c.args.item =
+    ap (λ (spot : Spot). spot.at + c.size_of-size.result) c.here-here.ensures ∙ ap (λ n. scan.at + n) c.size_of-size.ensures.value in
+    known_more source scan c.args.item _ _ _ _ _ _
+    c.requires.known c.requires.next c.requires.some c.requires.within
+    (ap (λ n. scan.at + n) c.size_of-size.ensures.value)
+    c.in_ok-go_behind.ensures
+    (c.outermost-self.ensures ∙ ap (outermost scan.opens scan.outer) c.here-here.ensures)
+    (rw take_rest at c.first_large-self.ensures ∙ ap (first_large scan.large (drop scan.at source) c.args.item) c.here-here.ensures)
+    (subst (λ n. IsFront source n c.first_bad-self.result) ends c.first_bad-self.ensures.front)
+    c.first_bad-self.ensures.placed
+    c.in_ok-go_on.ensures.short
+    c.in_ok-go_on.ensures.long

@@ -1,0 +1,50 @@
+//! The brackets that are open within a string.
+
+ghost use Rattle.std.specs.Prelude.{◌≡◌, OnOk};
+ghost use Rattle.sw_lex.specs.Cut as spec;
+
+use crate::forms::Begin;
+use crate::token::TokenKind;
+use sw_base::{NoMemory, Stack};
+
+/// Whether a string is open.
+pub fn is_inside(opens: &Stack<bool>) -> bool
+    ensures { result ≡ spec.is_inside opens.now }
+{
+    !opens.is_empty()
+}
+
+/// Whether `)` closes a `\(`.
+pub fn closes(opens: &Stack<bool>) -> bool
+    ensures { result ≡ spec.closes opens.now }
+{
+    match opens.get(0) {
+        None => false,
+        Some(bracket) => *bracket,
+    }
+}
+
+/// Keeps the brackets that are open within the outermost string, where `\(` is true.
+pub fn go_behind(opens: &mut Stack<bool>, item: Begin) -> Result<(), NoMemory>
+    ensures { OnOk result (opens.new ≡ spec.after opens.old item) }
+{
+    match item {
+        Begin::Token(TokenKind::StringStart, _) => opens.push(true),
+        Begin::Token(TokenKind::LeftParen, _) => {
+            if is_inside(opens) {
+                opens.push(false)
+            } else {
+                Ok(())
+            }
+        }
+        Begin::Token(TokenKind::StringLast, _) => {
+            opens.discard(1);
+            Ok(())
+        }
+        Begin::Token(TokenKind::RightParen, _) => {
+            opens.discard(1);
+            Ok(())
+        }
+        _ => Ok(()),
+    }
+}

@@ -1,0 +1,188 @@
+//! Reads a source once: cuts it into gaps and tokens, and keeps of each what is asked for later.
+
+ghost use Rattle.std.specs.Prelude.{◌≡◌, ◌<◌, ◌≤◌, ◌+◌, ◌-◌, ◌^◌, IfOk, IfSome, OnOk, drop, length, take};
+ghost use Rattle.std.specs.Str.{IsUtf8};
+ghost use Rattle.sw_lex.specs.Forms.{size_of};
+ghost use Rattle.sw_lex.specs.Characters.{IsFront, IsSeam};
+ghost use Rattle.sw_lex.specs.Tokens as tokens;
+ghost use Rattle.sw_lex.specs.Reading.{IsWithin};
+ghost use Rattle.sw_lex.specs.Scanning as spec;
+
+use crate::brackets::{closes, go_behind, is_inside};
+use crate::bytes::good_front;
+use crate::forms::{Begin, begins, size_of};
+use crate::limits::{MOST_BYTES, is_too_large};
+use crate::places::{ORIGIN, Spot, moved};
+use crate::telling::Told;
+use std::alloc::Global;
+use sw_base::{NoMemory, Span, Stack};
+
+/// What is known of a source behind the gaps and tokens that it is cut into so far.
+#[derive(Debug, Drop)]
+pub struct Scan {
+    /// How many bytes they have.
+    pub at: usize,
+    /// The brackets that are open within the outermost string, where `\(` is true.
+    pub opens: Stack<bool>,
+    /// Where that string begins.
+    pub outer: Spot,
+    /// The first byte that is no part of a character.
+    pub bad: Option<Spot>,
+    /// The first integer that is too large.
+    pub large: Option<Spot>,
+    /// Their tokens.
+    pub told: Told,
+}
+
+/// Where the outermost string begins behind what begins here.
+fn outermost(opens: &Stack<bool>, outer: Spot, here: Spot) -> Spot
+    ensures { result ≡ spec.outermost opens.now outer here }
+{
+    if is_inside(opens) { outer } else { here }
+}
+
+/// The place behind some bytes. A source that is too long is refused at its start, so that none of its
+/// places is asked for but the first.
+fn ahead(source: &[u8], here: Span, bytes: &[u8]) -> Span
+    requires lines { length source.now ≤ 1048576 → here.line + length bytes.now < 2 ^ 32 }
+    requires columns { length source.now ≤ 1048576 → here.column + length bytes.now < 2 ^ 32 }
+    ensures short { length source.now ≤ 1048576 → result ≡ tokens.moved here bytes.now }
+    ensures long { 1048576 < length source.now → result ≡ here }
+{
+    if MOST_BYTES < source.len() {
+        here
+    } else {
+        moved(here, bytes)
+    }
+}
+
+/// The first byte that is no part of a character, if it is one of so many from here on.
+fn bad_within(source: &[u8], here: Spot, size: usize) -> Option<Spot>
+    requires within { here.at + size ≤ length source.now }
+    requires seam { IsSeam (drop here.at source.now) size }
+    requires fine { IsUtf8 (take here.at source.now) }
+    requires place { spec.IsSpot source.now here }
+    ensures front { IsFront source.now (here.at + size) result }
+    ensures placed { IfSome result (spec.IsSpot source.now) }
+{
+    let bytes = &source[here.at..];
+    let good = good_front(&bytes[..size]);
+    if good == size {
+        return None;
+    }
+    Some(Spot {
+        at: here.at + good,
+        place: ahead(source, here.place, &bytes[..good]),
+    })
+}
+
+/// The first byte that is no part of a character, if it is one of those before or of so many from here on.
+pub fn first_bad(bad: Option<Spot>, source: &[u8], here: Spot, size: usize) -> Option<Spot>
+    requires within { here.at + size ≤ length source.now }
+    requires seam { IsSeam (drop here.at source.now) size }
+    requires front { IsFront source.now here.at bad }
+    requires place { spec.IsSpot source.now here }
+    requires placed { IfSome bad (spec.IsSpot source.now) }
+    ensures front { IsFront source.now (here.at + size) result }
+    ensures placed { IfSome result (spec.IsSpot source.now) }
+{
+    match bad {
+        Some(_) => bad,
+        None => bad_within(source, here, size),
+    }
+}
+
+/// The first integer that is too large.
+fn first_large(large: Option<Spot>, bytes: &[u8], item: Begin, here: Spot) -> Option<Spot>
+    requires { size_of item ≤ length bytes.now }
+    ensures { result ≡ spec.first_large large bytes.now item here }
+{
+    match large {
+        Some(_) => large,
+        None => {
+            if is_too_large(bytes, item) {
+                Some(here)
+            } else {
+                None
+            }
+        }
+    }
+}
+
+impl Scan {
+    /// Nothing is cut yet.
+    fn new(alloc: Global) -> Scan
+        ensures { result ≡ spec.nothing_cut }
+    {
+        let origin = Spot {
+            at: 0,
+            place: ORIGIN,
+        };
+        Scan {
+            at: 0,
+            opens: Stack::new(alloc),
+            outer: origin,
+            bad: None,
+            large: None,
+            told: Told::new(alloc),
+        }
+    }
+
+    /// Where what begins next stands.
+    pub fn here(&self) -> Spot
+        ensures { result ≡ spec.here self.now }
+    {
+        Spot {
+            at: self.at,
+            place: self.told.here.place,
+        }
+    }
+
+    /// What begins behind what is cut so far.
+    fn next(&self, source: &[u8]) -> Begin
+        requires { spec.Known source.now self.now }
+        ensures value { result ≡ spec.next self.now source.now }
+        ensures within { IsWithin result (length source.now - self.now.at) }
+    {
+        begins(
+            &source[self.at..],
+            is_inside(&self.opens),
+            closes(&self.opens),
+            self.bad.is_none(),
+        )
+    }
+
+    /// Goes on behind the gap or token that begins here.
+    fn go_on(&mut self, alloc: Global, source: &[u8], item: Begin) -> Result<(), NoMemory>
+        requires known { spec.Known source.now self.old }
+        requires next { item ≡ spec.next self.old source.now }
+        requires some { 1 ≤ size_of item }
+        requires within { self.old.at + size_of item ≤ length source.now }
+        ensures known { OnOk result (spec.Known source.now self.new) }
+        ensures at { OnOk result (self.new.at ≡ self.old.at + size_of item) }
+    {
+        let here = self.here();
+        let size = size_of(item);
+        self.outer = outermost(&self.opens, self.outer, here);
+        self.bad = first_bad(self.bad, source, here, size);
+        self.large = first_large(self.large, &source[self.at..], item, here);
+        self.told.go_on(alloc, source, self.at, item)?;
+        go_behind(&mut self.opens, item)?;
+        self.at += size;
+        Ok(())
+    }
+
+    /// All of a source's gaps and tokens, and what stands behind them.
+    pub fn read(alloc: Global, source: &[u8]) -> Result<(Scan, Begin), NoMemory>
+        ensures { IfOk result (λ r. spec.Read source.now r.0 r.1) }
+    {
+        let mut scan = Scan::new(alloc);
+        'read: loop {
+            let item = scan.next(source);
+            if size_of(item) == 0 {
+                return Ok((scan, item));
+            }
+            scan.go_on(alloc, source, item)?;
+        }
+    }
+}
