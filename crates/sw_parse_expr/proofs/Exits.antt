@@ -1,5 +1,5 @@
 -- Nodes as the reader gives them, and types that are none.
-use Rattle.std.proofs.Common.{◌≡◌, ℕ, zero, suc, Bool, false, List, [], ◌∷◌, ◌++◌, refl, sym, ap, ◌∙◌, arith}
+use Rattle.std.proofs.Common.{◌≡◌, ℕ, zero, suc, Bool, false, Option, List, [], ◌∷◌, ◌++◌, refl, sym, ap, ◌∙◌, arith}
 use Rattle.sw_base.specs.declared.ids.Span.{Span}
 use Rattle.sw_lex.specs.Bytes.{Text}
 use Rattle.sw_lex.specs.declared.token.TokenKind.TheVariants as k
@@ -14,6 +14,9 @@ use Rattle.sw_tree.specs.declared.expr.Name.{Name}
 use Rattle.sw_tree.specs.declared.types.«Type».{«Type» as TypeTree}
 use Rattle.sw_tree.specs.declared.types.«Type».TheVariants as tree
 use Rattle.sw_tree.specs.declared.expr.Expr.{Expr}
+use Rattle.sw_tree.specs.declared.expr.Binding.{Binding}
+use Rattle.sw_tree.specs.declared.stmt.Condition.{Condition}
+use Rattle.sw_tree.specs.declared.stmt.Condition.TheVariants as condition
 use Rattle.sw_tree.specs.declared.expr.Expr.TheVariants as e
 use Rattle.sw_tree.specs.declared.expr.Literal.TheVariants as literal
 use Rattle.sw_tree.specs.declared.expr.StringPiece.{StringPiece}
@@ -34,3 +37,7 @@ base_none lenient (suc d) l c ts h0 h1 h2 h = base_void lenient (suc d) l c ts h
 -- a type in a type, by its names
 pub two_names : (a a' b b' : Name) (c : ℕ) (r : List Sighted) → a' ≡ a → b' ≡ b → ◌≡◌ {A = Out Sighted TypeTree} (got (tree.Member a b) c r) (got (tree.Member a' b') c r)
 two_names a a' b b' c r e h = ap (λ n. got (tree.Member n b) c r) (sym e) ∙ ap (λ n. got (tree.Member a' n) c r) (sym h)
+
+-- a new name of a condition, by how it is bound and what it is called
+pub bound_node : (b b' : Binding) (n n' : Name) (x : Option Expr) (c : ℕ) (r : List Sighted) → b' ≡ b → n' ≡ n → ◌≡◌ {A = Out Sighted Condition} (got (condition.Bind b n x) c r) (got (condition.Bind b' n' x) c r)
+bound_node b b' n n' x c r e h = ap (λ z. got (condition.Bind z n x) c r) (sym e) ∙ ap (λ z. got (condition.Bind b' z x) c r) (sym h)

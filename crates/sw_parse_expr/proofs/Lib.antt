@@ -1,5 +1,3 @@
-pub mod PlaceLemmas
-pub mod RefusalLemmas
 mod NumberLemmas
 mod Exits
 mod PatternExits

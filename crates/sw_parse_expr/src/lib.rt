@@ -2,19 +2,20 @@
 //!
 //! Each function of `expressions` reads a part of the grammar and answers as its reader does: the value, the
 //! place after it and how many more parts may be counted, or the token that is refused and whether it is
-//! refused for want of room alone. `parse` gives the whole answer, and `refusal` the rule that is broken.
+//! refused for want of room alone. `parse` gives the whole answer, with the rule that is broken.
 #![tactic(auto)]
 
+mod conditions;
 mod expressions;
 mod literals;
 mod nodes;
 mod parse;
 mod pattern_literals;
 mod patterns;
-mod refusal;
 mod switch_patterns;
 mod types;
 
+pub use conditions::{condition, initial_value};
 pub use expressions::expr;
 pub use parse::parse_expr;
 pub use patterns::catch_pattern;

@@ -1,19 +1,34 @@
 //! The expression that the tokens of a source begin with at a place.
 
-ghost use Rattle.std.specs.Prelude.{◌≡◌, ◌<◌, length, IfOk, IfErr};
+ghost use Rattle.std.specs.Prelude.{◌≡◌, ◌≤◌, ◌<◌, length, IfOk, IfErr};
 ghost use Rattle.sw_lex.specs.Tokens.{EndsOnce};
+ghost use Rattle.sw_refusal.specs.Reader.{Ends};
 ghost use Rattle.sw_syntax.specs.Reading.{IntegersFit};
 ghost use Rattle.sw_syntax.specs.Refusals.{IsText, BreaksNone, IsCauseOf};
 ghost use Rattle.sw_syntax.specs.Symbols as symbol;
 ghost use Rattle.sw_syntax.specs.Tokens.{sighted};
 
 use crate::expressions::expr;
-use crate::refusal::{ROOM, broken_behind, refusal, refused_at};
 use std::alloc::Global;
 use sw_lex::Token;
+use sw_refusal::{ROOM, Reader, broken_behind, refusal, refused_at};
 use sw_rules::FrontError;
 use sw_syntax::{Source, Stop};
 use sw_tree::Expr;
+
+/// Reads expressions.
+struct Expressions;
+
+impl Reader for Expressions {
+    ghost symbol = { symbol.Expr };
+
+    fn end(alloc: Global, source: &Source, lenient: bool, at: usize) -> Result<usize, Stop> {
+        match expr(alloc, source, lenient, at, ROOM) {
+            Ok((_, end, _)) => Ok(end),
+            Err(stop) => Err(stop),
+        }
+    }
+}
 
 /// Gives the expression that the tokens of a source spell from a place on, and the place behind it.
 ///
@@ -30,12 +45,12 @@ pub fn parse_expr(alloc: Global, tokens: &[Token], at: usize) -> Result<(Expr, u
 {
     let source = Source::new(tokens);
     match expr(alloc, &source, false, at, ROOM) {
-        Ok((tree, end, _)) => match broken_behind(alloc, tokens, at, end)? {
+        Ok((tree, end, _)) => match broken_behind::<Expressions>(alloc, tokens, at, end)? {
             Some((rule, place)) => Err(refusal(tokens, rule, place)),
             None => Ok((tree, end)),
         },
         Err(Stop::Refused(end, is_full)) => {
-            let (rule, place) = refused_at(alloc, tokens, at, end, is_full)?;
+            let (rule, place) = refused_at::<Expressions>(alloc, tokens, at, end, is_full)?;
             Err(refusal(tokens, rule, place))
         }
         Err(Stop::NoMemory) => Err(FrontError::NoMemory),

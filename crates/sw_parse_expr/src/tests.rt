@@ -332,3 +332,13 @@ fn sixty_four_brackets_are_taken_and_the_next_is_refused(rt: HostRuntime) -> Res
     assert!(rt; is_refused(alloc, b"", b"f(", 65, b"a", b"refused P3 1:130")?);
     Ok(())
 }
+
+/// No tree is deeper than one that uses up brackets and signs together, with marks before each operand.
+#[test]
+fn the_deepest_trees_are_read_and_dropped(rt: HostRuntime) -> Result<(), Fail> {
+    let alloc = rt.alloc();
+    assert!(rt; is_taken(alloc, b"(try await -", 64, b")", b" @321")?);
+    assert!(rt; is_taken(alloc, b"[try await !", 64, b"]", b" @321")?);
+    assert!(rt; is_taken(alloc, b"a ? b : ", 100, b"", b" @401")?);
+    Ok(())
+}

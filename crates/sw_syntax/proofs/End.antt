@@ -1,51 +1,52 @@
--- The token for the end of the source stands in no expression, and in no beginning of one.
-use Rattle.std.proofs.Common.{◌≡◌, zero, suc, Bool, true, false, List, refl}
+-- The token for the end of the source stands at the end of a file, and nowhere else in the grammar.
+use Rattle.std.proofs.Common.{◌≡◌, ◌⊎◌, Option, inl, inr, ℕ, zero, suc, Bool, true, false, List, [], ◌∷◌, ◌++◌, Some, None, refl, sym, ap, ◌∙◌, subst, append-nil}
 use Rattle.sw_lex.specs.declared.token.TokenKind.TheVariants as k
+use Rattle.sw_grammar.specs.Grammar as grammar
 use Rattle.sw_grammar.specs.Grammar.{Room}
 use Rattle.sw_grammar.specs.Avoiding.{Free, Avoids}
 use Rattle.sw_grammar.proofs.Avoid as avoid
+use Rattle.sw_tree.specs.declared.decl.Decl.{Decl}
 use Rattle.sw_syntax.specs.Tokens.{same_kind, Sighted, Face, face_of}
 use Rattle.sw_syntax.specs.Tests.{is}
-use Rattle.sw_syntax.specs.Symbols.{Symbol, Sort, File, Some', Rest, Item, Param, Case, Payload, Type', Base, Block, Sbody, Stmts, AfterStmt, AfterReturn, Stmt', If, Arms, Cond, Pat, Cpat, Expr, Tern, Bin, Prefix, Post, Form, Arg, Prim, Elements}
+use Rattle.sw_syntax.specs.Symbols.{Decls, Members, Items, Requirements, InBlock, InArm, Open, Closed, Symbol, Sort, File, Some', Rest, Item, Param, Case, Payload, Type', Base, Block, Sbody, Stmts, AfterStmt, AfterReturn, Stmt', If, Arms, Cond, Pat, Cpat, Expr, Tern, Bin, Prefix, Post, Form, Arg, Prim, Elements}
 use Rattle.sw_syntax.specs.Grammar.{rule}
-use Rattle.sw_syntax.specs.Meaning.{Begun}
+use Rattle.sw_syntax.specs.Meaning.{Spells, Begun}
 use Rattle.sw_syntax.proofs.Classes.{apart}
 
--- the symbols of expressions
-abbrev in_expr : Symbol → Bool
-in_expr Expr = true
-in_expr Tern = true
-in_expr (Bin n) = true
-in_expr Prefix = true
-in_expr Post = true
-in_expr Form = true
-in_expr Arg = true
-in_expr Prim = true
-in_expr Elements = true
-in_expr symbol = false
+-- the symbols of what stands in a file
+abbrev in_file : Symbol → Bool
+in_file File = false
+in_file symbol = true
 
-no_end : (s : Symbol) → in_expr s ≡ true → Avoids Sighted Face Symbol Sort (is k.End) in_expr (rule false s)
+no_end : (s : Symbol) → in_file s ≡ true → Avoids Sighted Face Symbol Sort (is k.End) in_file (rule false s)
 unfolding same_kind
 no_end File h = absurd (cc)
-no_end (Some' l) h = absurd (cc)
-no_end (Rest l) h = absurd (cc)
-no_end (Item l) h = absurd (cc)
-no_end Param h = absurd (cc)
-no_end Case h = absurd (cc)
-no_end Payload h = absurd (cc)
-no_end Type' h = absurd (cc)
-no_end Base h = absurd (cc)
-no_end Block h = absurd (cc)
-no_end (Sbody at) h = absurd (cc)
-no_end (Stmts at) h = absurd (cc)
-no_end (AfterStmt at ending) h = absurd (cc)
-no_end (AfterReturn at) h = absurd (cc)
-no_end (Stmt' ending) h = absurd (cc)
-no_end If h = absurd (cc)
-no_end Arms h = absurd (cc)
-no_end Cond h = absurd (cc)
-no_end Pat h = absurd (cc)
-no_end Cpat h = absurd (cc)
+no_end (Some' l) h = (refl, refl)
+no_end (Rest l) h = ((apart _ _ (λ t. refl) (λ t. refl) refl, refl), refl)
+no_end (Item Decls) h = ((apart _ _ (λ t. refl) (λ t. refl) refl, apart _ _ (λ t. refl) (λ t. refl) refl), ((apart _ _ (λ t. refl) (λ t. refl) refl, (apart _ _ (λ t. refl) (λ t. refl) refl, (apart _ _ (λ t. refl) (λ t. refl) refl, refl))), (apart _ _ (λ t. refl) (λ t. refl) refl, ((apart _ _ (λ t. refl) (λ t. refl) refl, ((apart _ _ (λ t. refl) (λ t. refl) refl, (apart _ _ (λ t. refl) (λ t. refl) refl, (apart _ _ (λ t. refl) (λ t. refl) refl, (apart _ _ (λ t. refl) (λ t. refl) refl, apart _ _ (λ t. refl) (λ t. refl) refl)))), (apart _ _ (λ t. refl) (λ t. refl) refl, (refl, apart _ _ (λ t. refl) (λ t. refl) refl)))), ((apart _ _ (λ t. refl) (λ t. refl) refl, ((apart _ _ (λ t. refl) (λ t. refl) refl, (apart _ _ (λ t. refl) (λ t. refl) refl, (apart _ _ (λ t. refl) (λ t. refl) refl, (apart _ _ (λ t. refl) (λ t. refl) refl, apart _ _ (λ t. refl) (λ t. refl) refl)))), (apart _ _ (λ t. refl) (λ t. refl) refl, (refl, apart _ _ (λ t. refl) (λ t. refl) refl)))), ((apart _ _ (λ t. refl) (λ t. refl) refl, ((apart _ _ (λ t. refl) (λ t. refl) refl, (apart _ _ (λ t. refl) (λ t. refl) refl, (apart _ _ (λ t. refl) (λ t. refl) refl, (apart _ _ (λ t. refl) (λ t. refl) refl, apart _ _ (λ t. refl) (λ t. refl) refl)))), (apart _ _ (λ t. refl) (λ t. refl) refl, (refl, apart _ _ (λ t. refl) (λ t. refl) refl)))), ((apart _ _ (λ t. refl) (λ t. refl) refl, ((apart _ _ (λ t. refl) (λ t. refl) refl, (apart _ _ (λ t. refl) (λ t. refl) refl, (apart _ _ (λ t. refl) (λ t. refl) refl, (apart _ _ (λ t. refl) (λ t. refl) refl, apart _ _ (λ t. refl) (λ t. refl) refl)))), (apart _ _ (λ t. refl) (λ t. refl) refl, (refl, apart _ _ (λ t. refl) (λ t. refl) refl)))), ((apart _ _ (λ t. refl) (λ t. refl) refl, (apart _ _ (λ t. refl) (λ t. refl) refl, ((apart _ _ (λ t. refl) (λ t. refl) refl, ((refl, (apart _ _ (λ t. refl) (λ t. refl) refl, refl)), apart _ _ (λ t. refl) (λ t. refl) refl)), (apart _ _ (λ t. refl) (λ t. refl) refl, (apart _ _ (λ t. refl) (λ t. refl) refl, (apart _ _ (λ t. refl) (λ t. refl) refl, refl)))))), refl))))))))
+no_end (Item Members) h = ((apart _ _ (λ t. refl) (λ t. refl) refl, (apart _ _ (λ t. refl) (λ t. refl) refl, (apart _ _ (λ t. refl) (λ t. refl) refl, refl))), (apart _ _ (λ t. refl) (λ t. refl) refl, ((apart _ _ (λ t. refl) (λ t. refl) refl, (apart _ _ (λ t. refl) (λ t. refl) refl, ((apart _ _ (λ t. refl) (λ t. refl) refl, refl), (apart _ _ (λ t. refl) (λ t. refl) refl, refl)))), ((apart _ _ (λ t. refl) (λ t. refl) refl, (apart _ _ (λ t. refl) (λ t. refl) refl, (((apart _ _ (λ t. refl) (λ t. refl) refl, refl), ((apart _ _ (λ t. refl) (λ t. refl) refl, refl), (apart _ _ (λ t. refl) (λ t. refl) refl, (((apart _ _ (λ t. refl) (λ t. refl) refl, refl), refl), apart _ _ (λ t. refl) (λ t. refl) refl)))), (apart _ _ (λ t. refl) (λ t. refl) refl, refl)))), (((apart _ _ (λ t. refl) (λ t. refl) refl, (apart _ _ (λ t. refl) (λ t. refl) refl, ((apart _ _ (λ t. refl) (λ t. refl) refl, ((refl, (apart _ _ (λ t. refl) (λ t. refl) refl, refl)), apart _ _ (λ t. refl) (λ t. refl) refl)), (apart _ _ (λ t. refl) (λ t. refl) refl, (apart _ _ (λ t. refl) (λ t. refl) refl, (apart _ _ (λ t. refl) (λ t. refl) refl, refl)))))), refl), (apart _ _ (λ t. refl) (λ t. refl) refl, ((apart _ _ (λ t. refl) (λ t. refl) refl, ((refl, (apart _ _ (λ t. refl) (λ t. refl) refl, refl)), apart _ _ (λ t. refl) (λ t. refl) refl)), (apart _ _ (λ t. refl) (λ t. refl) refl, refl))))))))
+no_end (Item Items) h = ((apart _ _ (λ t. refl) (λ t. refl) refl, (refl, (apart _ _ (λ t. refl) (λ t. refl) refl, refl))), refl)
+no_end (Item Requirements) h = ((apart _ _ (λ t. refl) (λ t. refl) refl, (apart _ _ (λ t. refl) (λ t. refl) refl, ((apart _ _ (λ t. refl) (λ t. refl) refl, refl), (apart _ _ (λ t. refl) (λ t. refl) refl, (apart _ _ (λ t. refl) (λ t. refl) refl, apart _ _ (λ t. refl) (λ t. refl) refl))))), (apart _ _ (λ t. refl) (λ t. refl) refl, (apart _ _ (λ t. refl) (λ t. refl) refl, (apart _ _ (λ t. refl) (λ t. refl) refl, ((apart _ _ (λ t. refl) (λ t. refl) refl, ((refl, (apart _ _ (λ t. refl) (λ t. refl) refl, refl)), apart _ _ (λ t. refl) (λ t. refl) refl)), (apart _ _ (λ t. refl) (λ t. refl) refl, (apart _ _ (λ t. refl) (λ t. refl) refl, (apart _ _ (λ t. refl) (λ t. refl) refl, refl))))))))
+no_end Param h = (((apart _ _ (λ t. refl) (λ t. refl) refl, apart _ _ (λ t. refl) (λ t. refl) refl), (apart _ _ (λ t. refl) (λ t. refl) refl, apart _ _ (λ t. refl) (λ t. refl) refl)), (apart _ _ (λ t. refl) (λ t. refl) refl, (apart _ _ (λ t. refl) (λ t. refl) refl, (refl, apart _ _ (λ t. refl) (λ t. refl) refl))))
+no_end Case h = (apart _ _ (λ t. refl) (λ t. refl) refl, (apart _ _ (λ t. refl) (λ t. refl) refl, ((refl, (apart _ _ (λ t. refl) (λ t. refl) refl, refl)), apart _ _ (λ t. refl) (λ t. refl) refl)))
+no_end Payload h = ((apart _ _ (λ t. refl) (λ t. refl) refl, (apart _ _ (λ t. refl) (λ t. refl) refl, refl)), refl)
+no_end Type' h = (refl, apart _ _ (λ t. refl) (λ t. refl) refl)
+no_end Base h = ((apart _ _ (λ t. refl) (λ t. refl) refl, (apart _ _ (λ t. refl) (λ t. refl) refl, apart _ _ (λ t. refl) (λ t. refl) refl)), ((apart _ _ (λ t. refl) (λ t. refl) refl, (refl, apart _ _ (λ t. refl) (λ t. refl) refl)), ((apart _ _ (λ t. refl) (λ t. refl) refl, apart _ _ (λ t. refl) (λ t. refl) refl), (apart _ _ (λ t. refl) (λ t. refl) refl, apart _ _ (λ t. refl) (λ t. refl) refl))))
+no_end Block h = (apart _ _ (λ t. refl) (λ t. refl) refl, (refl, apart _ _ (λ t. refl) (λ t. refl) refl))
+no_end (Sbody InBlock) h = refl
+no_end (Sbody InArm) h = (refl, refl)
+no_end (Stmts at) h = ((refl, refl), ((refl, refl), (apart _ _ (λ t. refl) (λ t. refl) refl, refl)))
+no_end (AfterStmt InBlock ending) h = ((apart _ _ (λ t. refl) (λ t. refl) refl, refl), refl)
+no_end (AfterStmt InArm ending) h = ((apart _ _ (λ t. refl) (λ t. refl) refl, refl), (refl, refl))
+no_end (AfterReturn InBlock) h = ((refl, refl), ((apart _ _ (λ t. refl) (λ t. refl) refl, refl), refl))
+no_end (AfterReturn InArm) h = ((refl, refl), ((apart _ _ (λ t. refl) (λ t. refl) refl, refl), (refl, refl)))
+no_end (Stmt' Open) h = ((apart _ _ (λ t. refl) (λ t. refl) refl, (apart _ _ (λ t. refl) (λ t. refl) refl, ((apart _ _ (λ t. refl) (λ t. refl) refl, refl), (apart _ _ (λ t. refl) (λ t. refl) refl, refl)))), ((refl, (apart _ _ (λ t. refl) (λ t. refl) refl, refl)), ((apart _ _ (λ t. refl) (λ t. refl) refl, (apart _ _ (λ t. refl) (λ t. refl) refl, refl)), (apart _ _ (λ t. refl) (λ t. refl) refl, refl))))
+no_end (Stmt' Closed) h = (refl, ((apart _ _ (λ t. refl) (λ t. refl) refl, ((refl, (apart _ _ (λ t. refl) (λ t. refl) refl, refl)), (apart _ _ (λ t. refl) (λ t. refl) refl, refl))), ((apart _ _ (λ t. refl) (λ t. refl) refl, ((refl, (apart _ _ (λ t. refl) (λ t. refl) refl, refl)), refl)), ((apart _ _ (λ t. refl) (λ t. refl) refl, ((apart _ _ (λ t. refl) (λ t. refl) refl, apart _ _ (λ t. refl) (λ t. refl) refl), (apart _ _ (λ t. refl) (λ t. refl) refl, (refl, ((apart _ _ (λ t. refl) (λ t. refl) refl, refl), refl))))), ((apart _ _ (λ t. refl) (λ t. refl) refl, (refl, (apart _ _ (λ t. refl) (λ t. refl) refl, (refl, apart _ _ (λ t. refl) (λ t. refl) refl)))), ((apart _ _ (λ t. refl) (λ t. refl) refl, (refl, (apart _ _ (λ t. refl) (λ t. refl) refl, (refl, refl)))), (apart _ _ (λ t. refl) (λ t. refl) refl, apart _ _ (λ t. refl) (λ t. refl) refl)))))))
+no_end If h = ((apart _ _ (λ t. refl) (λ t. refl) refl, ((refl, (apart _ _ (λ t. refl) (λ t. refl) refl, refl)), refl)), ((apart _ _ (λ t. refl) (λ t. refl) refl, refl), (apart _ _ (λ t. refl) (λ t. refl) refl, refl)))
+no_end Arms h = (((apart _ _ (λ t. refl) (λ t. refl) refl, (refl, (apart _ _ (λ t. refl) (λ t. refl) refl, refl))), apart _ _ (λ t. refl) (λ t. refl) refl), (apart _ _ (λ t. refl) (λ t. refl) refl, refl))
+no_end Cond h = (refl, (apart _ _ (λ t. refl) (λ t. refl) refl, (apart _ _ (λ t. refl) (λ t. refl) refl, (apart _ _ (λ t. refl) (λ t. refl) refl, refl))))
+no_end Pat h = (apart _ _ (λ t. refl) (λ t. refl) refl, ((apart _ _ (λ t. refl) (λ t. refl) refl, (apart _ _ (λ t. refl) (λ t. refl) refl, (apart _ _ (λ t. refl) (λ t. refl) refl, (apart _ _ (λ t. refl) (λ t. refl) refl, (refl, ((apart _ _ (λ t. refl) (λ t. refl) refl, refl), apart _ _ (λ t. refl) (λ t. refl) refl)))))), (apart _ _ (λ t. refl) (λ t. refl) refl, (apart _ _ (λ t. refl) (λ t. refl) refl, (apart _ _ (λ t. refl) (λ t. refl) refl, (apart _ _ (λ t. refl) (λ t. refl) refl, (apart _ _ (λ t. refl) (λ t. refl) refl, ((((apart _ _ (λ t. refl) (λ t. refl) refl, apart _ _ (λ t. refl) (λ t. refl) refl), apart _ _ (λ t. refl) (λ t. refl) refl), (apart _ _ (λ t. refl) (λ t. refl) refl, ((apart _ _ (λ t. refl) (λ t. refl) refl, apart _ _ (λ t. refl) (λ t. refl) refl), apart _ _ (λ t. refl) (λ t. refl) refl))), apart _ _ (λ t. refl) (λ t. refl) refl))))))))
+no_end Cpat h = ((apart _ _ (λ t. refl) (λ t. refl) refl, (apart _ _ (λ t. refl) (λ t. refl) refl, (apart _ _ (λ t. refl) (λ t. refl) refl, apart _ _ (λ t. refl) (λ t. refl) refl))), (apart _ _ (λ t. refl) (λ t. refl) refl, (apart _ _ (λ t. refl) (λ t. refl) refl, (apart _ _ (λ t. refl) (λ t. refl) refl, (apart _ _ (λ t. refl) (λ t. refl) refl, ((((apart _ _ (λ t. refl) (λ t. refl) refl, apart _ _ (λ t. refl) (λ t. refl) refl), apart _ _ (λ t. refl) (λ t. refl) refl), (apart _ _ (λ t. refl) (λ t. refl) refl, ((apart _ _ (λ t. refl) (λ t. refl) refl, apart _ _ (λ t. refl) (λ t. refl) refl), apart _ _ (λ t. refl) (λ t. refl) refl))), apart _ _ (λ t. refl) (λ t. refl) refl))))))
 no_end Expr h = ((apart _ _ (λ t. refl) (λ t. refl) refl, apart _ _ (λ t. refl) (λ t. refl) refl), (apart _ _ (λ t. refl) (λ t. refl) refl, refl))
 no_end Tern h = (refl, (apart _ _ (λ t. refl) (λ t. refl) refl, (refl, (apart _ _ (λ t. refl) (λ t. refl) refl, refl))))
 no_end Prefix h = ((apart _ _ (λ t. refl) (λ t. refl) refl, refl), refl)
@@ -63,4 +64,29 @@ no_end (Bin (suc (suc (suc (suc (suc zero)))))) h = (refl, (apart _ _ (λ t. ref
 no_end (Bin (suc (suc (suc (suc (suc (suc n))))))) h = refl
 
 pub no_end_in_expr : (room : Room) (u : List Sighted) → Begun false Expr room u → Free (is k.End) u
-no_end_in_expr room u = avoid.begun_free Sighted Face Symbol Sort face_of (rule false) (is k.End) in_expr no_end Expr refl room u
+no_end_in_expr room u = avoid.begun_free Sighted Face Symbol Sort face_of (rule false) (is k.End) in_file no_end Expr refl room u
+
+-- ---- a file
+
+-- the last token is the end
+abbrev pub EndsFile : List Sighted → Type 0
+EndsFile u = (v : List Sighted) × (t : Sighted) × (u ≡ v ++ t ∷ []) × (is k.End t ≡ true)
+
+list_spelt : (room : Room) (n e : ℕ) (v : List Sighted) (x : Option (List Decl))
+    → grammar.Derives_by Sighted Face Symbol Sort face_of (rule false) (grammar.Derives Sighted Face Symbol Sort face_of (rule false) n) (grammar.maybe (grammar.sym (Some' Decls))) room.brackets room.limit room.left e v x
+    → Free (is k.End) v
+list_spelt room n e v None (ev, ec) = subst (Free (is k.End)) (sym ev) tt
+list_spelt room n e v (Some x) p = avoid.spelt_free Sighted Face Symbol Sort face_of (rule false) (is k.End) in_file no_end (Some' Decls) refl room v x (n, e, p)
+
+pub spelt_file : (room : Room) (u : List Sighted) (x : Sort File) → Spells false File room u x → EndsFile u
+spelt_file room u x (zero, c, p) = elim p [ ]
+spelt_file room u x (suc n, c, (y, (v, w, e, eu, p, (t, ew, is_end, _, _)), _)) = (v, t, eu ∙ ap (λ w. v ++ w) ew, is_end)
+
+-- a run that a file's text begins with is free of the end, or it is a text
+pub begun_file : (room : Room) (u : List Sighted) → Begun false File room u → Free (is k.End) u ⊎ ((x : Sort File) × Spells false File room u x)
+begun_file room u (zero, eu) = inl (subst (Free (is k.End)) (sym eu) tt)
+begun_file room u (suc n, inl (inl eu)) = inl (subst (Free (is k.End)) (sym eu) tt)
+begun_file room u (suc n, inl (inr p)) = inl (avoid.begun_free Sighted Face Symbol Sort face_of (rule false) (is k.End) in_file no_end (Some' Decls) refl room u (n, p))
+begun_file room u (suc n, inr (v, [], y, e, eu, (z, p, _), q)) = inl (subst (Free (is k.End)) (sym (eu ∙ append-nil v)) (list_spelt room n e v z p))
+begun_file room u (suc n, inr (v, t ∷ w, y, e, eu, p, (ew, is_end))) =
+    inr (_, (suc n, e, ((y, t.face), (v, t ∷ w, e, eu, p, (t, ap (λ w. t ∷ w) ew, is_end, refl, refl)), refl)))

@@ -8,6 +8,7 @@ pub mod Lenient
 pub mod Refused
 pub mod Reached
 pub mod End
+pub mod LastToken
 pub mod Integers
 pub mod Lexed
 pub mod SightLemmas

@@ -3,14 +3,16 @@ use Rattle.std.proofs.Common.{◌≡◌, ◌<◌, ◌≤◌, ◌+◌, ◌-◌, �
 use Rattle.std.proofs.lemmas.List.{length-drop}
 use Rattle.sw_grammar.specs.Reading.{Out, got, bad, full, stuck}
 use Rattle.sw_grammar.proofs.Begun as begun
-use Rattle.sw_syntax.specs.Tokens.{Sighted, Face, face_of}
+use Rattle.sw_lex.specs.declared.token.Token.{Token}
+use Rattle.sw_syntax.specs.Tokens.{Sighted, Face, face_of, sighted}
 use Rattle.sw_syntax.specs.Symbols.{Symbol, Sort}
 use Rattle.sw_syntax.specs.Grammar.{rule}
 use Rattle.sw_syntax.specs.Tables.{heads, tails, empties}
 use Rattle.sw_syntax.specs.Meaning.{Spells, Begun, Answers, source_room, read_in}
 use Rattle.sw_syntax.specs.Reading.{why}
-use Rattle.sw_syntax.specs.Refusals.{EndsAt, LacksRoom}
+use Rattle.sw_syntax.specs.Refusals.{EndsAt, LacksRoom, IsNoText, IsText}
 use Rattle.sw_syntax.proofs.Law.{exact, begun_front}
+use Rattle.sw_syntax.proofs.SightLemmas.{sighted_length}
 
 -- of two cuts of one list, the first goes beyond the token behind the second's front, or it does not
 abbrev pub Sides : {T : Type 0} → List T → List T → List T → T → List T → Type 0
@@ -116,3 +118,27 @@ module _ (lenient : Bool) (s : Symbol) (S : List Sighted) (at : ℕ) (u : List S
       go : (v : List Sighted) → LacksRoom lenient s v (drop place S) → Here → (w : List Sighted) × (u ≡ v ++ w) × (drop place S ≡ w ++ t ∷ rest) → ⊥
       go v lacks here ([], eu, er) = let (a, b) = lengths place in let c = ap length er in omega (arith, l, a, b, c)
       go v lacks here (y ∷ w, eu, er) = ended v w y eu (subst (LacksRoom lenient s v) er lacks).0 here
+
+-- ---- all the tokens of a source
+
+pub text_found : (s : Symbol) (tokens : List Token) (at : ℕ) (x : Sort s) (c end : ℕ) → at < length tokens → end ≤ length (sighted tokens)
+    → read_in false s source_room (drop at (sighted tokens)) ≡ got x c (drop end (sighted tokens)) → IsText s tokens at x end
+text_found s tokens at x c end inside ends given =
+    let (u, e, p, h) = subst (λ o. Answers false s source_room (drop at (sighted tokens)) o) given (exact false s source_room (drop at (sighted tokens))) in
+    let a = sym (length-drop at (sighted tokens)) ∙ ap length e ∙ length-append u (drop end (sighted tokens)) in
+    let b = length-drop end (sighted tokens) in
+    let l = sighted_length tokens in
+    (u, drop end (sighted tokens), e, omega (arith, a, b, l, inside, ends), p, h)
+
+-- what is refused is a token, unless all of them begin a text and are none
+pub refused_inside : (s : Symbol) (tokens : List Token) (at place : ℕ) (is_full : Bool) → (Begun false s source_room (drop at (sighted tokens)) → IsNoText s (drop at (sighted tokens)) → ⊥)
+    → read_in false s source_room (drop at (sighted tokens)) ≡ bad (why is_full) (drop place (sighted tokens)) → place < length tokens
+refused_inside s tokens at place is_full never given = go is_full (drop place (sighted tokens)) refl (subst (λ o. Answers false s source_room (drop at (sighted tokens)) o) given (exact false s source_room (drop at (sighted tokens))))
+  where
+    stands : (t : Sighted) (rest : List Sighted) → drop place (sighted tokens) ≡ t ∷ rest → place < length tokens
+    stands t rest e = let a = sym (length-drop place (sighted tokens)) ∙ ap length e in let l = sighted_length tokens in omega (arith, a, l)
+
+    go : (is_full : Bool) (rest : List Sighted) → drop place (sighted tokens) ≡ rest → Answers false s source_room (drop at (sighted tokens)) (bad (why is_full) rest) → place < length tokens
+    go is_full (t ∷ rest) e h = stands t rest e
+    go true [] e (u, eu, p, lacks) = elim lacks [ ]
+    go false [] e (u, eu, p, ends, none) = let all = sym (eu ∙ append-nil u) in absurd (never (subst (Begun false s source_room) all p) (subst (IsNoText s) all none))

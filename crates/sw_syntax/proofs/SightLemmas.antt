@@ -49,7 +49,7 @@ broken_length b [] = refl
 broken_length zero (t ∷ ts) = refl
 broken_length (suc b) (t ∷ ts) = ap suc (broken_length b ts)
 
-sighted_length : (ts : List Token) → length (sighted ts) ≡ length ts
+pub sighted_length : (ts : List Token) → length (sighted ts) ≡ length ts
 sighted_length [] = refl
 sighted_length (t ∷ ts) = ap suc (sighted_length ts)
 
