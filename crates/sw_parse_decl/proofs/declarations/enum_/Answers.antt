@@ -1,0 +1,19 @@
+use Rattle.std.proofs.lemmas.Result.{err_from_is_err_and}
+use Rattle.sw_lex.specs.declared.token.TokenKind.TheVariants as k
+use Rattle.sw_syntax.specs.Tests.{is}
+use Rattle.sw_syntax.proofs.DeclSteps as decl
+use Rattle.sw_syntax.proofs.Exits.{after, passes}
+use Rattle.sw_parse_decl.proofs.declarations.enum_.Goals as goal
+
+pub returns-in_err-heading-clause-gives : goal.returns-in_err-heading-clause-gives
+returns-in_err-heading-clause-gives c =
+    let p = err_from_is_err_and c.from_residual.result c.from_residual.ensures.1 in
+    rw (p.1, p.2) (passes _ _ _ _ _ (decl.decl_enum _ _ _ _ _ _ _ _ c.requires.0 c.requires.1 (c.take-next.ensures.taken (is k.Enum) c.requires.1)) (c.in_err-heading.ensures.gives))
+
+pub returns-in_err-items-clause-gives : goal.returns-in_err-items-clause-gives
+returns-in_err-items-clause-gives c =
+    let p = err_from_is_err_and c.from_residual-in_err-items.result c.from_residual-in_err-items.ensures.1 in
+    rw (p.1, p.2) (passes _ _ _ _ _ (after _ _ _ _ _ _ (decl.decl_enum _ _ _ _ _ _ _ _ c.requires.0 c.requires.1 (c.take-next.ensures.taken (is k.Enum) c.requires.1)) (c.in_ok-heading.ensures.gives)) (c.in_err-items.ensures.gives))
+
+pub returns-clause-gives : goal.returns-clause-gives
+returns-clause-gives c = after _ _ _ _ _ _ (after _ _ _ _ _ _ (decl.decl_enum _ _ _ _ _ _ _ _ c.requires.0 c.requires.1 (c.take-next.ensures.taken (is k.Enum) c.requires.1)) (c.in_ok-heading.ensures.gives)) (c.in_ok-items.ensures.gives)

@@ -1,0 +1,76 @@
+//! What a token says of a node.
+
+ghost use Rattle.std.specs.Prelude.{◌≡◌, IfOk};
+ghost use Rattle.sw_lex.specs.Tables.{is_same_text};
+ghost use Rattle.sw_syntax.specs.Forms as form;
+ghost use Rattle.sw_syntax.specs.Sights.{token_face};
+ghost use Rattle.sw_syntax.specs.Values.{name_of};
+
+use sw_base::{Duplicate, NoMemory};
+use sw_lex::{Token, TokenKind};
+use sw_tree::{Modifier, ModifierKind, Name, ParameterLabel};
+
+/// The name that a token spells.
+pub fn name(token: &Token) -> Result<Name, NoMemory>
+    ensures { IfOk result (λ name. name ≡ name_of (token_face token.now)) }
+{
+    Ok(Name {
+        text: token.text.copy()?,
+        span: token.span,
+    })
+}
+
+fn is_word(text: &[u8], word: &[u8]) -> bool
+    ensures { result ≡ is_same_text text.now word.now }
+{
+    text == word
+}
+
+/// The modifier of a word that is not reserved.
+fn modifier_word(text: &[u8]) -> ModifierKind
+    ensures { result ≡ form.modifier_word text.now }
+{
+    if is_word(text, b"final") {
+        return ModifierKind::Final;
+    }
+    if is_word(text, b"distributed") {
+        return ModifierKind::Distributed;
+    }
+    if is_word(text, b"nonisolated") {
+        return ModifierKind::Nonisolated;
+    }
+    ModifierKind::Mutating
+}
+
+fn modifier_kind(kind: TokenKind, text: &[u8]) -> ModifierKind
+    ensures { result ≡ form.modifier_in kind text.now }
+{
+    match kind {
+        TokenKind::Public => ModifierKind::Public,
+        TokenKind::Internal => ModifierKind::Internal,
+        TokenKind::Private => ModifierKind::Private,
+        TokenKind::Fileprivate => ModifierKind::Fileprivate,
+        TokenKind::Static => ModifierKind::Static,
+        _ => modifier_word(text),
+    }
+}
+
+/// The modifier that a token spells.
+pub fn modifier(token: &Token) -> Modifier
+    ensures { result ≡ form.modifier_of (token_face token.now) }
+{
+    Modifier {
+        kind: modifier_kind(token.kind, token.text.as_bytes()),
+        span: token.span,
+    }
+}
+
+/// What the first of two names of a parameter labels its arguments with.
+pub fn label(token: &Token) -> Result<ParameterLabel, NoMemory>
+    ensures { IfOk result (λ label. label ≡ form.label_in token.now.kind (name_of (token_face token.now))) }
+{
+    match token.kind {
+        TokenKind::Underscore => Ok(ParameterLabel::Nothing),
+        _ => Ok(ParameterLabel::Other(name(token)?)),
+    }
+}

@@ -1,0 +1,13 @@
+use Rattle.std.proofs.Common.{◌≡◌, ◌≤◌, drop, length, ◌-◌}
+use Rattle.sw_syntax.specs.Bodies.{more_patterns, pattern_list}
+use Rattle.sw_parse_stmt.proofs.parts.patterns.Given as goal
+
+abbrev pub invariant-patterns : goal.invariant-patterns
+invariant-patterns l = record {
+  so_far : pattern_list l.lenient l.room.brackets l.room.limit l.room.left (drop l.at l.source) ≡ more_patterns l.lenient l.room.brackets l.room.limit l.left l.xs (drop l.end l.source);
+  moves : l.at ≤ l.end;
+  inside : l.end ≤ length l.source;
+}
+
+abbrev pub decreases-patterns : goal.decreases-patterns
+decreases-patterns l = length l.source - l.end

@@ -1,0 +1,13 @@
+use Rattle.std.proofs.Common.{}
+use Rattle.std.proofs.lemmas.Result.{err_from_is_err_and}
+use Rattle.sw_syntax.proofs.Exits.{after, gives_by, passes}
+use Rattle.sw_syntax.proofs.StmtSteps as stmt
+use Rattle.sw_parse_stmt.proofs.simple.expression.Goals as goal
+
+pub returns-in_err-x-clause-gives : goal.returns-in_err-x-clause-gives
+returns-in_err-x-clause-gives c =
+    let p = err_from_is_err_and c.from_residual.result c.from_residual.ensures.1 in
+    rw (p.1, p.2) (passes _ _ _ _ _ (stmt.open_expr _ _ _ _ _ c.requires.0 c.requires.1) (c.in_err-x.ensures.gives))
+
+pub returns-clause-gives : goal.returns-clause-gives
+returns-clause-gives c = gives_by _ _ _ _ (after _ _ _ _ _ _ (stmt.open_expr _ _ _ _ _ c.requires.0 c.requires.1) (c.in_ok-x.ensures.gives)) c.assigned.ensures.gives

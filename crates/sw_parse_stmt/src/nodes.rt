@@ -1,0 +1,76 @@
+//! What a token says of a statement, and the nodes of statements that need memory.
+
+ghost use Rattle.std.specs.Prelude.{◌≡◌, IfOk};
+ghost use Rattle.sw_syntax.specs.Sights.{token_face};
+ghost use Rattle.sw_syntax.specs.Values as spec;
+
+use sw_base::{Duplicate, NoMemory};
+use sw_lex::{Token, TokenKind};
+use sw_tree::{AssignOperator, Binding, Expr, Name, RangeOperator, Stmt, Type};
+
+pub fn binding(kind: TokenKind) -> Binding
+    ensures { result ≡ spec.binding_of kind }
+{
+    match kind {
+        TokenKind::Let => Binding::Let,
+        _ => Binding::Var,
+    }
+}
+
+pub fn assign_operator(kind: TokenKind) -> AssignOperator
+    ensures { result ≡ spec.assign_of kind }
+{
+    match kind {
+        TokenKind::PlusAssign => AssignOperator::Add,
+        TokenKind::MinusAssign => AssignOperator::Subtract,
+        TokenKind::StarAssign => AssignOperator::Multiply,
+        TokenKind::SlashAssign => AssignOperator::Divide,
+        TokenKind::PercentAssign => AssignOperator::Remainder,
+        _ => AssignOperator::Assign,
+    }
+}
+
+pub fn range_operator(kind: TokenKind) -> RangeOperator
+    ensures { result ≡ spec.range_of kind }
+{
+    match kind {
+        TokenKind::HalfOpenRange => RangeOperator::HalfOpen,
+        _ => RangeOperator::Closed,
+    }
+}
+
+/// Tells whether an expression ends in a name, a member or an index.
+pub fn is_place(x: &Expr) -> bool
+    ensures { result ≡ spec.is_place x.now }
+{
+    match x {
+        Expr::Name(_) => true,
+        Expr::Implicit(_, _) => true,
+        Expr::Member(_, _) => true,
+        Expr::Index(_, _, _) => true,
+        _ => false,
+    }
+}
+
+/// The name that a token spells.
+pub fn name(token: &Token) -> Result<Name, NoMemory>
+    ensures { IfOk result (λ name. name ≡ spec.name_of (token_face token.now)) }
+{
+    Ok(Name {
+        text: token.text.copy()?,
+        span: token.span,
+    })
+}
+
+/// `let` or `var`, the name behind it, and the type and the value of that.
+pub fn local(
+    mark: &Token,
+    name_token: &Token,
+    declared: Option<Type>,
+    value: Expr,
+) -> Result<Stmt, NoMemory>
+    ensures { IfOk result (λ x. x ≡ Stmt.Local mark.now.span (spec.binding_of mark.now.kind) (spec.name_of (token_face name_token.now)) declared value) }
+{
+    let name = name(name_token)?;
+    Ok(Stmt::Local(mark.span, binding(mark.kind), name, declared, value))
+}
