@@ -11,7 +11,7 @@ time stands beside it. The memory is the greatest of all runs, as the system tel
 never below what this script has at the start of a run, which is about 17 MB.
 
 It ends with status 1 where a report is wrong, where twice the lines take GROWTH times the time or more, where a run
-takes MOST_MEMORY or more, or where a source of the greatest size is not served or a longer one is; with status 2
+takes MOST_MEMORY or more, or where a source of the greatest size is not served or a longer one is not refused; with status 2
 where the program cannot be run. The gate does not call it.
 """
 
@@ -135,8 +135,8 @@ def limits(program, folder):
     text, _ = of_size(MOST_BYTES + 1)
     write(os.path.join(folder, "source"), text)
     status, out = run(program, folder)[3:5]
-    if status != 11 or out != b"not built\n":
-        faults.append(f"{len(text)} bytes: status {status}, not 11")
+    if status != 1 or out != b"refused L5 1:1\n":
+        faults.append(f"{len(text)} bytes: status {status}, not 1")
     return faults
 
 

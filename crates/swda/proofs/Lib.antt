@@ -1,6 +1,9 @@
 pub mod SumLemmas
 pub mod NameLemmas
 pub mod SourceLemmas
+pub mod ReadLemmas
+pub mod ThinTreeLemmas
+pub mod ThinTextLemmas
 pub mod ReportLemmas
 pub mod TopLemmas
 pub mod LoweringLemmas

@@ -1,15 +1,15 @@
--- What a reader of thin sources knows of fronts, ends and names.
-use Rattle.std.proofs.Common.{◌≡◌, ◌≢◌, ℕ, zero, suc, ◌+◌, ◌<◌, ◌≤◌, ◌^◌, List, [], ◌∷◌, ◌++◌, length, take, drop, get_or, true, false, Option, Some, None, MatchOption, Bor, IsTrue, ◌↔◌, ◌⊎◌, inl, inr, rules, refl, sym, ap, ◌∙◌, arith, append-nil, append_assoc}
-use Rattle.std.specs.Prelude.{nat_eq, codes, slice_get, ◌==◌, ◌-◌}
+-- Names of the variables of thin sources.
+use Rattle.std.proofs.Common.{◌≡◌, ℕ, zero, suc, ◌+◌, ◌<◌, ◌≤◌, ◌^◌, List, [], ◌++◌, length, take, drop, get_or, true, false, Some, Bor, IsTrue, ◌↔◌, ◌⊎◌, inl, inr, refl, sym, ap, ◌∙◌, arith, append-nil}
+use Rattle.std.specs.Prelude.{nat_eq, codes, ◌==◌}
 use Rattle.std.specs.Char.{is_ascii_digit}
 use Rattle.std.specs.Cmp.Lexicographic.{pointwise}
 use Rattle.std.specs.Fmt.{decimal}
 use Rattle.std.proofs.lemmas.Bool.{false≢true}
 use Rattle.std.proofs.lemmas.Bool.Decides.{Decides-eqb}
 use Rattle.std.proofs.lemmas.Fmt.{digits_decimal, digits_value-decimal, decimal-digits_value, length-decimal-le, decimal_nonempty, first_decimal, decimal_digit}
-use Rattle.std.proofs.lemmas.List.{append_cancel_left, nil_from_length}
-use Rattle.std.proofs.lemmas.Slice.Eq.{strip_prefix_is, strip_suffix_is}
-use Rattle.swda.specs.Source.{IsDigits, number_from, print_line, let_line}
+use Rattle.std.proofs.lemmas.List.{nil_from_length}
+use Rattle.std.proofs.lemmas.Slice.Eq.{strip_prefix_is}
+use Rattle.swda.specs.Source.{IsDigits, number_from}
 use Rattle.swda.specs.Lines.{Stops, IsName}
 use Rattle.swda.proofs.SumLemmas.{own, one_cut}
 
@@ -17,35 +17,12 @@ use Rattle.swda.proofs.SumLemmas.{own, one_cut}
 pub stripped : (s p : List ℕ) (x : Bor (List ℕ)) → (pointwise nat_eq (take (length p) s) p ≡ true) × (x.now ≡ drop (length p) s) × (length x.now + length p ≡ length s) → s ≡ p ++ x.now
 stripped s p x h = strip_prefix_is Decides-eqb s p (Some x) h
 
-pub not_stripped : (s p : List ℕ) → pointwise nat_eq (take (length p) s) p ≡ false → (rest : List ℕ) → s ≢ p ++ rest
-not_stripped s p h = strip_prefix_is Decides-eqb s p None h
-
-pub stripped_end : (s p : List ℕ) (x : Bor (List ℕ)) → (pointwise nat_eq (drop (length s - length p) s) p ≡ true) × (x.now ≡ take (length s - length p) s) × (length x.now + length p ≡ length s) → s ≡ x.now ++ p
-stripped_end s p x h = strip_suffix_is Decides-eqb s p (Some x) h
-
 pub empty_is : (n : ℕ) → true ≡ (n == 0) → n ≡ 0
 empty_is n h = (Decides-eqb n 0).0 (sym h)
 
 pub not_empty_is : (n : ℕ) → false ≡ (n == 0) → 0 < n
 not_empty_is zero h = absurd (false≢true h)
 not_empty_is (suc n) h = omega arith
-
-pub first_is : (what : List ℕ) (c : ℕ) → Some c ≡ slice_get what 0 → get_or what 0 0 ≡ c
-first_is [] c h = absurd cc
-first_is (x ∷ what) c h = cc
-
--- what is between the parentheses of a line that begins as a `print` line
-pub printed_is : (line rest : List ℕ) → line ≡ codes "  print(" ++ rest → (r : Option (Bor (List ℕ))) → MatchOption r ((front : List ℕ) → rest ≢ front ++ codes ")") (λ x. rest ≡ x.now ++ codes ")") → MatchOption r ((what : List ℕ) → line ≢ print_line what) (λ x. line ≡ print_line x.now)
-printed_is line rest opened None h = λ what e. h what (ap (drop 8) (sym opened ∙ e))
-printed_is line rest opened (Some x) h = opened ∙ ap (λ t. codes "  print(" ++ t) h
-
--- what is after the name of a line that begins as a `let` line
-pub declared_is : (line name rest : List ℕ) → line ≡ codes "  let " ++ (name ++ rest) → (r : Option (Bor (List ℕ))) → MatchOption r ((more : List ℕ) → rest ≢ codes " = " ++ more) (λ x. rest ≡ codes " = " ++ x.now) → MatchOption r ((sum : List ℕ) → line ≢ let_line name sum) (λ x. line ≡ let_line name x.now)
-declared_is line name rest opened None h = λ sum e. h sum (append_cancel_left name rest (codes " = " ++ sum) (ap (drop 6) (sym opened ∙ e) ∙ append_assoc name (codes " = ") sum))
-declared_is line name rest opened (Some x) h = opened ∙ ap (λ t. codes "  let " ++ t) (ap (λ t. name ++ t) h ∙ sym (append_assoc name (codes " = ") x.now))
-
-pub not_declared : (line name rest : List ℕ) → line ≡ codes "  let " ++ rest → ((more : List ℕ) → rest ≢ name ++ more) → (sum : List ℕ) → line ≢ let_line name sum
-not_declared line name rest opened none sum e = none (codes " = " ++ sum) (ap (drop 6) (sym opened ∙ e) ∙ append_assoc name (codes " = ") sum)
 
 small_decimal : (j k : ℕ) → j < k → k ≤ 1048576 → j < 2 ^ 64
 small_decimal j k lt small = omega (arith, lt, small)
@@ -85,6 +62,3 @@ test_fails {P} none = (λ h. absurd (none_true h), λ p. absurd (none p))
   where
     none_true : IsTrue false → ⊥
     none_true h = grind arith
-
-pub test_holds : {P : Type 0} → P → IsTrue true ↔ P
-test_holds p = (λ h. p, λ q. search rules)

@@ -6,10 +6,14 @@ use Rattle.sw_outside.specs.Causes.{Rose}
 use Rattle.swda.specs.declared.history.Entry.{Entry}
 use Rattle.swda.specs.State.{MeaningState, Replays}
 use Rattle.swda.specs.History.{start, IsDriven, labels_of}
-use Rattle.swda.specs.Source.{main_func, Spells, IsNotThin}
+use Rattle.sw_rules.specs.Refusal.{line_text}
+use Rattle.sw_tree.specs.declared.decl.Tree.{Tree}
+use Rattle.swda.specs.Source.{main_func}
+use Rattle.swda.specs.ReadAs.{IsRead, IsRefused}
+use Rattle.swda.specs.ThinTreeOf.{IsThinTree, IsNoThinTree}
 use Rattle.swda.specs.Report.{report_text}
 use Rattle.swda.specs.declared.status.Status.{Status}
-use Rattle.swda.specs.declared.status.Status.TheVariants.{Done, Usage, LoadFault, WriteFault, WantOfMemory, NotBuilt}
+use Rattle.swda.specs.declared.status.Status.TheVariants.{Done, Refused, Usage, LoadFault, WriteFault, WantOfMemory, NotBuilt}
 
 abbrev pub usage_text : List ℕ
 usage_text = codes "usage: swda check FILE | list FILE | run FILE PLAN | replay FILE PLAN SCHEDULE | threads FILE PLAN WORKERS | gen SEED SIZE\n"
@@ -43,8 +47,9 @@ pub record Reports (main : Func) (text : List ℕ) : Type 0 where
 
 -- the status and the text of a run of these files
 abbrev pub RunSays : List ℕ → List ℕ → Status → List ℕ → Type 0
-RunSays source plan Done text = (body : List Stmt) × Spells source body × (plan ≡ plan_text) × Reports (main_func body) text
-RunSays source plan NotBuilt text = (IsNotThin source ⊎ (plan ≢ plan_text)) × (text ≡ not_built_text)
+RunSays source plan Done text = (tree : Tree) × (body : List Stmt) × IsRead source tree × IsThinTree body tree × (plan ≡ plan_text) × Reports (main_func body) text
+RunSays source plan (Refused refusal) text = IsRefused source refusal × (text ≡ line_text refusal)
+RunSays source plan NotBuilt text = (tree : Tree) × IsRead source tree × (IsNoThinTree tree ⊎ (plan ≢ plan_text)) × (text ≡ not_built_text)
 RunSays source plan _ text = ⊥
 
 -- a call: its words; what the loader tells of each name; the names asked and the loader's count of faults,

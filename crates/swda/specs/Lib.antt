@@ -10,7 +10,10 @@ pub mod History
 pub mod Turn
 pub mod World
 pub mod Source
+pub mod ReadAs
+pub mod ThinTreeOf
 pub mod Lines
+pub mod ThinText
 pub mod Report
 pub mod Answers
 pub mod Rows

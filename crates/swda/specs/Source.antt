@@ -1,4 +1,4 @@
--- The thin sources, which are served so far, by whole lines: a main whose body declares variables by sums of
+-- The thin sources, by whole lines, whose trees are served so far: a main whose body declares variables by sums of
 -- integers, and prints sums, variables and texts.
 use Rattle.std.specs.Prelude.{◌≡◌, ℕ, pos, ◌+◌, ◌<◌, ◌≤◌, List, [], ◌∷◌, ◌++◌, length, Bool, true, ◌&&◌, not, ◌==◌, nat_le, ◌*◌, ◌-◌, codes}
 use Rattle.std.specs.Char.{is_ascii_digit}
@@ -97,9 +97,6 @@ pub record Spells (source : List ℕ) (body : List Stmt) : Type 0 where
   pub each : AreLines 0 lines body
   pub few : length body ≤ 90000
   pub short : length source ≤ 1048576
-
-abbrev pub IsNotThin : List ℕ → Type 0
-IsNotThin source = (body : List Stmt) → Spells source body → ⊥
 
 -- the body is that of some thin source
 pub record IsThin (body : List Stmt) : Type 0 where

@@ -5,11 +5,13 @@ mod history;
 mod lowering;
 mod machine;
 mod output;
+mod reading;
 mod reports;
 mod run;
 mod source;
 mod status;
 mod thin;
+mod thin_tree;
 mod top;
 mod world;
 

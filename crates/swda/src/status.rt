@@ -3,12 +3,15 @@
 ghost use Rattle.std.specs.Prelude.{◌≡◌};
 
 use sw_base::Text;
+use sw_rules::Refusal;
 
 /// How a call of the program has ended. The number of each is the exit code of the program.
 #[derive(Debug, PartialEq, Eq, Drop)]
 pub enum Status {
     /// 0: the run was driven to its end, and its report is written.
     Done,
+    /// 1: the source breaks a rule. The first that it breaks is written, with its place.
+    Refused(Refusal),
     /// 2: the words are none of the forms of the call.
     Usage,
     /// 3: the file of this name could not be loaded.
@@ -30,6 +33,7 @@ impl Status {
     {
         match self {
             Status::Done => 0,
+            Status::Refused(_) => 1,
             Status::Usage => 2,
             Status::LoadFault { .. } => 3,
             Status::WriteFault => 4,

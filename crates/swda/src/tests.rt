@@ -1,12 +1,17 @@
 //! Worked calls of the program, over loaders and sinks in memory.
 
+mod refused;
+
 use crate::top::swda;
+use refused::REFUSED;
 use std::alloc::Global;
 use std::process::Abort;
 use sw_base::{Items, NoMemory, Text};
 use sw_outside::{MemLoader, MemSink};
 
 const HI: &[u8] = b"func main(system: NodeSystem) async throws {\n  print(\"hi\")\n}\n";
+
+const HI_IN_A_LINE: &[u8] = b"func main(system: NodeSystem) async throws { print(\"hi\") }";
 
 const HI_REPORT: &[u8] =
     b"end done\nstatements 1\nevents 2\ncalls 0\nstarted 0\nwaited 0\nsent 0\nlost 0\ndelivered 0\nnoise 0\nnode 0 restarts 0\nlog 0 hi\ntask 0 node 0 epoch 0 returned\n";
@@ -82,6 +87,8 @@ fn call_over<'a>(words: &'a [&'a [u8]], files: Files<'a>) -> Call<'a> {
 fn runs_are_reported(rt: HostRuntime) {
     let alloc = rt.alloc();
     expect_answer(&rt, alloc, call_over(RUN, SERVED), 0, HI_REPORT);
+    let one_line: Files = &[(b"file", HI_IN_A_LINE), (b"plan", PLAN)];
+    expect_answer(&rt, alloc, call_over(RUN, one_line), 0, HI_REPORT);
     let no_line: Files = &[(b"file", NO_LINE), (b"plan", PLAN)];
     expect_answer(&rt, alloc, call_over(RUN, no_line), 0, NO_LINE_REPORT);
 }
@@ -163,6 +170,13 @@ fn sums_and_variables_are_printed(rt: HostRuntime) {
         (b"  print(0)\n", 1, 2, b"log 0 0\n"),
         (b"  print(000000007)\n", 1, 2, b"log 0 7\n"),
         (b"  print(1 + 20 + 300)\n", 1, 2, b"log 0 321\n"),
+        (b"  print(1 +2)\n", 1, 2, b"log 0 3\n"),
+        (
+            b"print(1_000 /* and */ + 0002); print(\"\\u{41}\")\n",
+            2,
+            3,
+            b"log 0 1002\nlog 0 A\n",
+        ),
         (
             b"  let v0 = 5\n  let v1 = 7\n  print(v0)\n  print(v1)\n",
             4,
@@ -193,15 +207,75 @@ fn other_body_lines_are_not_built(rt: HostRuntime) {
         b"  let v0 = 1\n  print(v1)\n",
         b"  let v0 = 1\n  print(v00)\n",
         b"  let v0 = 1\n  let v1 = v0\n",
-        b"  print(1 +2)\n",
+        b"  print(1 - 2)\n",
+        b"  print((1))\n",
+        b"  let v0: Int = 1\n",
+        b"  print(\"\\n\")\n",
         b"  print(1234567890)\n",
         b"  print()\n",
     ];
     for lines in rows {
         expect_not_built(&rt, alloc, *lines);
     }
-    let line = print_of_terms(alloc, 101).expect(&rt, "memory");
+    let mut line = Text::from_bytes(alloc, b"  let v0 = 1").expect(&rt, "memory");
+    for _ in 0..100 {
+        line.push_all(b" + 1").expect(&rt, "memory");
+    }
+    line.push_all(b"\n").expect(&rt, "memory");
     expect_not_built(&rt, alloc, line.as_bytes());
+}
+
+/// Expects the first rule that a source breaks.
+fn expect_refused(rt: &impl Abort, alloc: Global, source: &[u8], line: &[u8]) {
+    let files: Files = &[(b"file", source), (b"plan", PLAN)];
+    expect_answer(rt, alloc, call_over(RUN, files), 1, line);
+}
+
+#[test]
+fn sources_that_break_a_rule_are_refused(rt: HostRuntime) {
+    let alloc = rt.alloc();
+    let rows: &[(&[u8], &[u8])] = &[
+        (b"let x = 1", b"refused P1 1:1\n"),
+        (b"\"", b"refused L3 1:1\n"),
+        (b"\xc3\xa9", b"refused L2 1:1\n"),
+        (
+            b"func g() async throws { }\nfunc f() async throws { await try g() }",
+            b"refused P4 2:25\n",
+        ),
+        (
+            b"func main(system: NodeSystem) async throws {\n  print(1)",
+            b"refused P1 2:11\n",
+        ),
+    ];
+    for (source, line) in rows {
+        expect_refused(&rt, alloc, *source, *line);
+    }
+    for (source, line) in REFUSED {
+        expect_refused(&rt, alloc, *source, *line);
+    }
+    // The call is one of the forms that count, so that the 100th mark is the 101st of them.
+    let lines = print_of_terms(alloc, 101).expect(&rt, "memory");
+    let source = source_of(alloc, lines.as_bytes()).expect(&rt, "memory");
+    expect_refused(&rt, alloc, source.as_bytes(), b"refused P3 2:1207\n");
+    let two_nodes: Files = &[(b"file", b"let x = 1"), (b"plan", TWO_NODES)];
+    expect_answer(
+        &rt,
+        alloc,
+        call_over(RUN, two_nodes),
+        1,
+        b"refused P1 1:1\n",
+    );
+}
+
+#[test]
+fn a_source_of_a_byte_too_many_is_refused(rt: HostRuntime) {
+    let alloc = rt.alloc();
+    let mut source = Text::from_bytes(alloc, b"\n").expect(&rt, "memory");
+    for _ in 0..16384 {
+        let line = b"                                                               \n";
+        source.push_all(line).expect(&rt, "memory");
+    }
+    expect_refused(&rt, alloc, source.as_bytes(), b"refused L5 1:1\n");
 }
 
 #[test]

@@ -3,17 +3,23 @@
 ghost use Rattle.std.specs.Prelude.{◌≡◌, ◌≢◌, ◌⊎◌, ℕ, ◌≤◌, List, Some, IfOk, MatchOption};
 ghost use Rattle.swda.specs.ThinTree.{Stmt};
 ghost use Rattle.sw_outside.specs.Causes.{Rose};
-ghost use Rattle.swda.specs.Source.{Spells, IsNotThin};
+ghost use Rattle.sw_rules.specs.declared.Refusal.{Refusal as RefusalFound};
+ghost use Rattle.sw_rules.specs.Refusal.{line_text};
+ghost use Rattle.sw_tree.specs.declared.decl.Tree.{Tree};
+ghost use Rattle.swda.specs.ReadAs.{HasTree, First};
+ghost use Rattle.swda.specs.ThinTreeOf.{IsThinTree, IsNoThinTree};
 ghost use Rattle.swda.specs.Answers.{run_words, plan_text, usage_text, load_fault_text, not_built_text, with_text, IsNoForm, RunSays, Says, WritesFront, Answers};
-ghost use Rattle.swda.specs.Rows.{DoneRow, LoadFaultRow, NotBuiltRow, AsksBoth, IsDoneOrFault, IsUsageOrFault, IsNotBuiltOrFault};
+ghost use Rattle.swda.specs.Rows.{DoneRow, RefusedRow, LoadFaultRow, NotBuiltRow, AsksBoth, IsDoneOrFault, IsRefusedOrFault, IsUsageOrFault, IsNotBuiltOrFault};
 
 use crate::output::write_all;
+use crate::reading::read;
 use crate::run::report_of;
-use crate::source::read;
 use crate::status::Status;
+use crate::thin_tree::thin_body;
 use std::alloc::Global;
 use sw_base::{Duplicate, NoMemory, Text};
 use sw_outside::{Failed, LoadError, Loader, Sink};
+use sw_rules::{FrontError, Refusal, line};
 
 const USAGE: &[u8] =
     b"usage: swda check FILE | list FILE | run FILE PLAN | replay FILE PLAN SCHEDULE | threads FILE PLAN WORKERS | gen SEED SIZE\n";
@@ -72,14 +78,29 @@ fn not_built(alloc: Global) -> Result<Said, NoMemory>
     })
 }
 
+/// What is said where the source breaks a rule.
+fn refused(alloc: Global, refusal: Refusal) -> Result<Said, NoMemory>
+    ensures { IfOk result (λ said. (said.status ≡ Status.Refused refusal) × (said.text ≡ line_text refusal)) }
+{
+    Ok(Said {
+        status: Status::Refused(refusal),
+        text: line(alloc, &refusal)?,
+    })
+}
+
 /// What is said of the run of a source under a plan.
 fn run(alloc: Global, source: &[u8], plan: &[u8]) -> Result<Said, NoMemory>
     ensures { IfOk result (λ said. RunSays source.now plan.now said.status said.text) }
 {
+    let tree = match read(alloc, source) {
+        Ok(tree) => tree,
+        Err(FrontError::Refused(refusal)) => return refused(alloc, refusal),
+        Err(FrontError::NoMemory) => return Err(NoMemory),
+    };
     if plan != PLAN {
         return not_built(alloc);
     }
-    let Some(body) = read(alloc, source)? else {
+    let Some(body) = thin_body(alloc, &tree)? else {
         return not_built(alloc);
     };
     Ok(Said {
@@ -151,12 +172,14 @@ fn answer<L: Loader, S: Sink>(alloc: Global, words: &[Text], loader: &mut L, sin
 /// The words are those of the command line, without the program's name. The statuses, each with the text that the
 /// sink has taken:
 ///
-/// - `Done`: the words are `run FILE PLAN`, the loader gave both files, the source is a thin one and the plan is the
-///   one that is served. The text is the report of the run.
+/// - `Done`: the words are `run FILE PLAN`, the loader gave both files, the source breaks no rule of tokens and of the
+///   grammar, its tree is a thin one, and the plan is the one that is served. The text is the report of the run.
+/// - `Refused`: the loader gave both files, and the source breaks a rule of tokens or of the grammar. The text is the
+///   line of the first rule that it breaks.
 /// - `Usage`: the words are of no form. The text lists the forms, and no file was asked.
 /// - `LoadFault`: the loader failed at the file word with this name. The text names it.
-/// - `NotBuilt`: the loader gave both files, and the source is no thin one or the plan is another one. The text is
-///   `not built`.
+/// - `NotBuilt`: the loader gave both files, the source breaks no such rule, and its tree is no thin one or the plan is
+///   another one. The text is `not built`.
 /// - `WriteFault`: the sink failed. It has taken a front of the text that another status would have had.
 /// - `WantOfMemory`: memory was wanted. The sink has taken nothing. No clause says when it comes.
 pub fn swda<L: Loader, S: Sink>(
@@ -167,10 +190,19 @@ pub fn swda<L: Loader, S: Sink>(
 ) -> Status
     // 0: exactly on these words and files, up to faults and want of memory
     ensures done { result ≡ Status.Done → DoneRow words.now (L.holds loader.old) (S.taken sink.old) (S.taken sink.new) }
-    ensures done_completes { (file plan source : List ℕ) (body : List Stmt) → words.now ≡ run_words file plan
+    ensures done_completes { (file plan source : List ℕ) (tree : Tree) (body : List Stmt) → words.now ≡ run_words file plan
         → L.holds loader.old file ≡ Some source → L.holds loader.old plan ≡ Some plan_text
-        → Spells source body → IsDoneOrFault result }
+        → HasTree source tree → IsThinTree body tree → IsDoneOrFault result }
     ensures asked { result ≡ Status.Done → AsksBoth words.now (L.asked loader.old) (L.asked loader.new) }
+
+    // 1: exactly on a source that breaks a rule, up to faults and want of memory
+    ensures refused { (refusal : RefusalFound) → result ≡ Status.Refused refusal
+        → RefusedRow refusal words.now (L.holds loader.old) (S.taken sink.old) (S.taken sink.new) }
+    ensures refused_completes { (file plan source p : List ℕ) (refusal : RefusalFound) → words.now ≡ run_words file plan
+        → L.holds loader.old file ≡ Some source → L.holds loader.old plan ≡ Some p
+        → First source refusal → IsRefusedOrFault result }
+    ensures asked_refused { (refusal : RefusalFound) → result ≡ Status.Refused refusal
+        → AsksBoth words.now (L.asked loader.old) (L.asked loader.new) }
 
     // 2: exactly on words of no form, up to faults of the sink and want of memory
     ensures usage { result ≡ Status.Usage → IsNoForm words.now × (S.taken sink.new ≡ with_text usage_text (S.taken sink.old))
@@ -201,9 +233,9 @@ pub fn swda<L: Loader, S: Sink>(
     // 11: exactly on files beyond what is built, up to faults and want of memory
     ensures not_built { result ≡ Status.NotBuilt
         → NotBuiltRow words.now (L.holds loader.old) (S.taken sink.old) (S.taken sink.new) }
-    ensures not_built_completes { (file plan source p : List ℕ) → words.now ≡ run_words file plan
+    ensures not_built_completes { (file plan source p : List ℕ) (tree : Tree) → words.now ≡ run_words file plan
         → L.holds loader.old file ≡ Some source → L.holds loader.old plan ≡ Some p
-        → (IsNotThin source ⊎ (p ≢ plan_text)) → IsNotBuiltOrFault result }
+        → HasTree source tree → (IsNoThinTree tree ⊎ (p ≢ plan_text)) → IsNotBuiltOrFault result }
     ensures asked_not_built { result ≡ Status.NotBuilt → AsksBoth words.now (L.asked loader.old) (L.asked loader.new) }
 {
     answer(alloc, words, loader, sink)

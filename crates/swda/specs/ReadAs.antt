@@ -1,0 +1,45 @@
+-- What a source is read as: its tree, or the first rule that it breaks before names are looked at.
+use Rattle.std.specs.Prelude.{◌≡◌, ◌⊎◌, false, List}
+use Rattle.sw_rules.specs.declared.Refusal.{Refusal}
+use Rattle.sw_rules.specs.declared.FrontError.{FrontError}
+use Rattle.sw_rules.specs.declared.FrontError.TheVariants.{Refused, NoMemory}
+use Rattle.sw_lex.specs.declared.token.Token.{Token}
+use Rattle.sw_lex.specs.Bytes.{Text}
+use Rattle.sw_lex.specs.Tokens.{CutsInto}
+use Rattle.sw_lex.specs.Rules as tokens
+use Rattle.sw_tree.specs.declared.decl.Tree.{Tree}
+use Rattle.sw_syntax.specs.Tokens.{sighted}
+use Rattle.sw_syntax.specs.Symbols.{File}
+use Rattle.sw_syntax.specs.Meaning.{Spells, source_room}
+use Rattle.sw_syntax.specs.Refusals as grammar
+
+-- the source breaks no rule of tokens, and is cut into these
+abbrev pub HasTokens : Text → List Token → Type 0
+HasTokens source found = CutsInto source found × tokens.BreaksNone source
+
+-- its tokens break no rule of the grammar, and spell this tree
+abbrev pub HasTree : Text → Tree → Type 0
+HasTree source tree =
+    (found : List Token) × HasTokens source found × Spells false File source_room (sighted found) tree × grammar.BreaksNone File found 0
+
+-- The first rule that the source breaks, and its place: of tokens; or, where it breaks none of these, of the grammar.
+abbrev pub First : Text → Refusal → Type 0
+First source refusal =
+    tokens.IsFirstBroken source refusal
+    ⊎ ((found : List Token) × HasTokens source found × grammar.IsCauseOf File found 0 (Refused refusal))
+
+-- the source has this tree, no other, and is not refused
+pub record IsRead (source : Text) (tree : Tree) : Type 0 where
+  pub has : HasTree source tree
+  pub only : (other : Tree) → HasTree source other → other ≡ tree
+  pub sound : (refusal : Refusal) → First source refusal → ⊥
+
+-- the source is refused so, and has no tree
+pub record IsRefused (source : Text) (refusal : Refusal) : Type 0 where
+  pub first : First source refusal
+  pub none : (tree : Tree) → HasTree source tree → ⊥
+
+-- want of memory says nothing
+abbrev pub IsRefusedBy : Text → FrontError → Type 0
+IsRefusedBy source (Refused refusal) = IsRefused source refusal
+IsRefusedBy source NoMemory = Unit {0}

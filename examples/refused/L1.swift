@@ -1,0 +1,3 @@
+// café
+func main(system: NodeSystem) async throws {
+}

@@ -1,0 +1,3 @@
+func main(system: NodeSystem) async throws {
+  let a = 5 # 3
+}
