@@ -14,9 +14,8 @@ not call it.
 
 import os
 import sys
-import tempfile
 
-from runs import GROWTH, PLAN, run, write
+from runs import GROWTH, run, script, write
 
 RUNS = 9
 MOST_MEMORY = 40
@@ -75,25 +74,12 @@ def measure(program, folder, name, make):
     return faults
 
 
-def main(words):
-    here = os.path.dirname(os.path.abspath(__file__))
-    if len(words) > 1 or (words and words[0].startswith("-")):
-        print(__doc__)
-        return 2
-    program = os.path.abspath(words[0] if words else os.path.join(here, "..", "crates", "swda", "out", "swda"))
-    if not (os.path.isfile(program) and os.access(program, os.X_OK)):
-        print(f"no program at {program}: build it first, or name it as the one word")
-        return 2
+def measured(program, folder):
     faults = []
-    with tempfile.TemporaryDirectory() as folder:
-        write(os.path.join(folder, "plan"), PLAN)
-        for name, make in [("funcs", funcs), ("array", array), ("deep", deep)]:
-            faults += measure(program, folder, name, make)
-    for fault in dict.fromkeys(faults):
-        print(f"FAULT {fault}")
-    print("parses: failed" if faults else "parses: ok")
-    return 1 if faults else 0
+    for name, make in [("funcs", funcs), ("array", array), ("deep", deep)]:
+        faults += measure(program, folder, name, make)
+    return faults
 
 
 if __name__ == "__main__":
-    sys.exit(main(sys.argv[1:]))
+    sys.exit(script(sys.argv[1:], __doc__, "parses", measured))

@@ -140,31 +140,35 @@ def limits(program, folder):
     return faults
 
 
-def main(words):
+def script(words, doc, name, measured):
+    """A whole bench: finds the program that the words name, prints what `measured` finds wrong, and gives the status."""
     here = os.path.dirname(os.path.abspath(__file__))
     if len(words) > 1 or (words and words[0].startswith("-")):
-        print(__doc__)
+        print(doc)
         return 2
     program = os.path.abspath(words[0] if words else os.path.join(here, "..", "crates", "swda", "out", "swda"))
     if not (os.path.isfile(program) and os.access(program, os.X_OK)):
         print(f"no program at {program}: build it first, or name it as the one word")
         return 2
-
-    faults = []
     with tempfile.TemporaryDirectory() as folder:
         write(os.path.join(folder, "plan"), PLAN)
         try:
-            for name, make, sizes in KINDS:
-                faults += measure(program, folder, name, make, sizes)
-            faults += limits(program, folder)
+            faults = measured(program, folder)
         except OSError as error:
             print(f"{program} cannot be run: {error}")
             return 2
     for fault in dict.fromkeys(faults):
         print(f"FAULT {fault}")
-    print("runs: failed" if faults else "runs: ok")
+    print(f"{name}: failed" if faults else f"{name}: ok")
     return 1 if faults else 0
 
 
+def measured(program, folder):
+    faults = []
+    for name, make, sizes in KINDS:
+        faults += measure(program, folder, name, make, sizes)
+    return faults + limits(program, folder)
+
+
 if __name__ == "__main__":
-    sys.exit(main(sys.argv[1:]))
+    sys.exit(script(sys.argv[1:], __doc__, "runs", measured))
