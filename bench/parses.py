@@ -1,15 +1,19 @@
 #!/usr/bin/env python3
 """Measures how long `swda run` takes to read long sources that are not served, each kind at three sizes.
 
-usage: bench/parses.py [PROGRAM]      (default: crates/swda/out/swda of this checkout)
+usage: bench/parses.py [--dense] [PROGRAM]      (default: crates/swda/out/swda of this checkout)
 
-funcs: small funcs, one on each line. array: one array literal. deep: lines with 63 brackets within the braces of a func.
-The last size of each is the greatest that a source may have. Each source breaks no rule of tokens and of the grammar, and
-is no thin one, so that it is lexed and parsed and then `not built`.
+These are sources of ordinary spelling. funcs: small funcs, one on each line. array: one array literal, of the integers
+from 0 on. deep: lines with 63 brackets within the braces of a func, and a name and a mark in each. The last size of each is
+the greatest that a source may have. Each source breaks no rule of tokens and of the grammar, and is no thin one, so that it
+is lexed and parsed and then `not built`.
 
 It ends with status 1 where the answer is another one, where twice the bytes take GROWTH times the time or more, or where a
 run takes MOST_MEMORY times the bytes of its source or more; with status 2 where the program cannot be run. The gate does
 not call it.
+
+With --dense a second table shows sources that nobody writes, of almost one token in each byte: dense array, of 7s, and
+dense deep, of 63 brackets round a 1. What it shows decides nothing, but for a wrong answer.
 """
 
 import os
@@ -35,19 +39,40 @@ def funcs(size):
 
 def array(size):
     first, last = b"func main(system: NodeSystem) async throws { let xs = [", b"] }"
-    count = (size - len(first) - len(last)) // 3
-    return padded(first + b"7, " * count + last, size)
+    numbers, left, number = [], size - len(first) - len(last), 0
+    while left >= len(text := b"%d, " % number):
+        numbers.append(text)
+        left -= len(text)
+        number += 1
+    return padded(first + b"".join(numbers) + last, size)
 
 
-def deep(size):
+def nested(line, size):
     first, last = b"func main(system: NodeSystem) async throws {\n", b"}\n"
-    line = b"  let x = " + b"(" * 63 + b"1" + b")" * 63 + b"\n"
     count = (size - len(first) - len(last)) // len(line)
     return padded(first + line * count + last, size)
 
 
-def measure(program, folder, name, make):
-    """Prints a table of one kind, and gives what is wrong."""
+def deep(size):
+    return nested(b"  let x = " + b"(counter + " * 63 + b"1" + b")" * 63 + b"\n", size)
+
+
+def dense_array(size):
+    first, last = b"func main(system: NodeSystem) async throws { let xs = [", b"] }"
+    count = (size - len(first) - len(last)) // 3
+    return padded(first + b"7, " * count + last, size)
+
+
+def dense_deep(size):
+    return nested(b"  let x = " + b"(" * 63 + b"1" + b")" * 63 + b"\n", size)
+
+
+ORDINARY = [("funcs", funcs), ("array", array), ("deep", deep)]
+DENSE = [("dense array", dense_array), ("dense deep", dense_deep)]
+
+
+def measure(program, folder, name, make, decides):
+    """Prints a table of one kind, and gives what is wrong: no more than the answers where it does not decide."""
     faults = []
     made = {size: make(size) for size in SIZES}
     cpus, memories = {size: [] for size in SIZES}, {size: [] for size in SIZES}
@@ -59,27 +84,33 @@ def measure(program, folder, name, make):
             memories[size].append(memory)
             if status != 11 or out != b"not built\n" or err:
                 faults.append(f"{size} {name}: status {status}, {out[:60]!r}, {err[:60]!r}")
-    print(f"{name:>8} {'cpu':>10} {'memory':>10} {'growth':>8}   best of {RUNS}")
+    print(f"{name:>11} {'cpu':>10} {'memory':>10} {'growth':>8}   best of {RUNS}")
     before = None
     for size in SIZES:
         cpu, memory = min(cpus[size]), max(memories[size])
         growth = cpu / before if before else 0.0
         shown = f"{growth:.2f}" if before else ""
-        print(f"{size:>8} {cpu * 1000:>7.1f} ms {memory:>7.1f} MB {shown:>8}")
+        print(f"{size:>11} {cpu * 1000:>7.1f} ms {memory:>7.1f} MB {shown:>8}")
+        before = cpu
+        if not decides:
+            continue
         if growth >= GROWTH:
             faults.append(f"{size} {name}: {growth:.2f} times the time of {size // 2}, not below {GROWTH}")
         if memory * 1e6 >= MOST_MEMORY * size and size == SIZES[-1]:
             faults.append(f"{size} {name}: {memory:.1f} MB, not below {MOST_MEMORY} times the source")
-        before = cpu
     return faults
 
 
-def measured(program, folder):
+def measured(program, folder, dense):
     faults = []
-    for name, make in [("funcs", funcs), ("array", array), ("deep", deep)]:
-        faults += measure(program, folder, name, make)
+    for name, make in ORDINARY:
+        faults += measure(program, folder, name, make, True)
+    for name, make in DENSE if dense else []:
+        faults += measure(program, folder, name, make, False)
     return faults
 
 
 if __name__ == "__main__":
-    sys.exit(script(sys.argv[1:], __doc__, "parses", measured))
+    words = [word for word in sys.argv[1:] if word != "--dense"]
+    dense = len(words) < len(sys.argv) - 1
+    sys.exit(script(words, __doc__, "parses", lambda program, folder: measured(program, folder, dense)))

@@ -251,5 +251,5 @@ pub fn decoded(alloc: Global, bytes: &[u8]) -> Result<Text, NoMemory>
         push_spoken(&mut out, &bytes[at..])?;
         at += spoken_len(&bytes[at..]);
     }
-    Ok(Text::from(out))
+    Text::from_vec(alloc, out)
 }

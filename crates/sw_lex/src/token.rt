@@ -189,14 +189,16 @@ pub enum TokenKind {
 }
 
 /// A token, with its place and what of the bytes before it the line rules speak of.
+///
+/// The fields stand in the order that leaves no gaps between them: a long source has many tokens.
 #[derive(Debug, PartialEq, Drop)]
 pub struct Token {
-    pub kind: TokenKind,
     /// What the string piece stands for; of any other token its bytes. The end has none.
     pub text: Text,
     /// The place of its first byte. The end stands one column after the last byte of the source, also
     /// where that byte ends a line, and at 1:1 where there is none.
     pub span: Span,
+    pub kind: TokenKind,
     /// No earlier token stands on its line.
     pub first_on_line: bool,
     /// A token stands directly before it, with neither white space nor a comment between.
@@ -204,6 +206,8 @@ pub struct Token {
     /// White space stands directly before it. A comment is none.
     pub after_space: bool,
 }
+
+const _: () = prove!(size_of::<Token>() == 32);
 
 impl Duplicate for TokenKind {
     fn copy(&self) -> Result<TokenKind, NoMemory> {

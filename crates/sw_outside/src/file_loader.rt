@@ -70,8 +70,9 @@ impl<R: Files + AllocGlobal> Loader for FileLoader<'_, R> {
         let asked = name.copy()?;
         match file_bytes(self.rt, name.as_bytes()) {
             Ok(bytes) => {
+                let text = Text::from_vec(self.rt.alloc(), bytes)?;
                 self.asked.push(asked)?;
-                Ok(Text::from(bytes))
+                Ok(text)
             }
             Err(error) if error.kind() == ErrorKind::OutOfMemory => Err(LoadError::NoMemory),
             Err(_) => {

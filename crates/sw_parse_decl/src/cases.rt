@@ -17,7 +17,7 @@ use std::alloc::Global;
 use sw_base::NoMemory;
 use sw_lex::{Token, TokenKind};
 use sw_parse_expr::type_;
-use sw_syntax::{Opening, Room, Source, Stop, Test, stands};
+use sw_syntax::{Opening, Room, Source, Stop, Test, stands, trimmed};
 use sw_tree::{Case, EnumItem, Payload, Type};
 
 /// What was read, the place after it, and how many more parts may be counted.
@@ -88,7 +88,8 @@ fn payload_list(
         end = y_end;
         left = y_left;
     }
-    Ok((xs, end, left))
+    let kept = trimmed(alloc, xs)?;
+    Ok((kept, end, left))
 }
 
 /// The payload of a case, if it stands there.
@@ -154,7 +155,8 @@ fn case_list(
         end = y_end;
         left = y_left;
     }
-    Ok((xs, end, left))
+    let kept = trimmed(alloc, xs)?;
+    Ok((kept, end, left))
 }
 
 /// An item of an enum.

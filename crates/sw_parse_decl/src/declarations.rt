@@ -22,7 +22,7 @@ use sqlite_items::Items;
 use std::alloc::Global;
 use sw_lex::TokenKind;
 use sw_parse_stmt::block;
-use sw_syntax::{Opening, Room, Source, Stop, Test, stands};
+use sw_syntax::{Opening, Room, Source, Stop, Test, stands, trimmed};
 use sw_tree::{Decl, EnumItem, Func, Member, Modifier, Requirement};
 
 /// What was read, the place after it, and how many more parts may be counted.
@@ -53,7 +53,8 @@ fn member_block(
     };
     let (xs, end, left) = members(alloc, source, lenient, next, inner)?;
     let (_, behind) = source.expect(end, Test::Is(TokenKind::RightBrace))?;
-    Ok((xs, behind, left))
+    let kept = trimmed(alloc, xs)?;
+    Ok((kept, behind, left))
 }
 
 /// Items of an enum between braces.
@@ -81,7 +82,8 @@ fn enum_block(
     };
     let (xs, end, left) = enum_items(alloc, source, lenient, next, inner)?;
     let (_, behind) = source.expect(end, Test::Is(TokenKind::RightBrace))?;
-    Ok((xs, behind, left))
+    let kept = trimmed(alloc, xs)?;
+    Ok((kept, behind, left))
 }
 
 /// Requirements of a protocol between braces.
@@ -109,7 +111,8 @@ fn requirement_block(
     };
     let (xs, end, left) = requirements(alloc, source, lenient, next, inner)?;
     let (_, behind) = source.expect(end, Test::Is(TokenKind::RightBrace))?;
-    Ok((xs, behind, left))
+    let kept = trimmed(alloc, xs)?;
+    Ok((kept, behind, left))
 }
 
 /// A struct, behind its modifiers.

@@ -9,7 +9,7 @@ use sqlite_items::Items;
 use std::alloc::Global;
 use sw_lex::TokenKind;
 use sw_parse_expr::type_;
-use sw_syntax::{Room, Source, Stop, Test};
+use sw_syntax::{Room, Source, Stop, Test, trimmed};
 use sw_tree::{Heading, Modifier, Name, Typealias};
 
 /// What was read, the place after it, and how many more parts may be counted.
@@ -43,7 +43,8 @@ fn conformances(
         xs.push(other_name)?;
         end = other_end;
     }
-    Ok((xs, end, room.left))
+    let kept = trimmed(alloc, xs)?;
+    Ok((kept, end, room.left))
 }
 
 /// The heading of a type behind its modifiers and its word.

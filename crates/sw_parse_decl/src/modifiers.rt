@@ -7,7 +7,7 @@ ghost use Rattle.sw_syntax.specs.Reading.{Gives, Inside, Stays};
 use crate::nodes;
 use sqlite_items::Items;
 use std::alloc::Global;
-use sw_syntax::{Opening, Room, Source, Stop, stands};
+use sw_syntax::{Opening, Room, Source, Stop, stands, trimmed};
 use sw_tree::Modifier;
 
 /// What was read, the place after it, and how many more parts may be counted.
@@ -33,5 +33,6 @@ pub fn modifiers(
         xs.push(nodes::modifier(token))?;
         end = next;
     }
-    Ok((xs, end, room.left))
+    let kept = trimmed(alloc, xs)?;
+    Ok((kept, end, room.left))
 }

@@ -14,7 +14,7 @@ use sqlite_items::Items;
 use std::alloc::Global;
 use sw_lex::TokenKind;
 use sw_parse_expr::type_;
-use sw_syntax::{Opening, Room, Source, Stop, Test, expect_opening, stands};
+use sw_syntax::{Opening, Room, Source, Stop, Test, expect_opening, stands, trimmed};
 use sw_tree::{Name, Parameter, ParameterLabel};
 
 /// What was read, the place after it, and how many more parts may be counted.
@@ -116,7 +116,8 @@ fn list(
         end = y_end;
         left = y_left;
     }
-    Ok((xs, end, left))
+    let kept = trimmed(alloc, xs)?;
+    Ok((kept, end, left))
 }
 
 /// Parameters in brackets.

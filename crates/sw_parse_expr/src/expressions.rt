@@ -16,7 +16,7 @@ use sqlite_items::Items;
 use std::alloc::Global;
 use sw_base::{Duplicate, Span};
 use sw_lex::TokenKind;
-use sw_syntax::{Room, Source, Stop, Test};
+use sw_syntax::{Room, Source, Stop, Test, trimmed};
 use sw_tree::{Argument, Expr, Literal};
 
 /// What was read, the place after it, and how many more parts may be counted.
@@ -418,7 +418,8 @@ fn arguments(
         end = y_end;
         left = y_left;
     }
-    Ok((xs, end, left))
+    let kept = trimmed(alloc, xs)?;
+    Ok((kept, end, left))
 }
 
 /// An argument, perhaps with a label.
@@ -526,7 +527,8 @@ fn array(alloc: Global, source: &Source, lenient: bool, at: usize, room: Room) -
     };
     let (xs, end, left) = elements(alloc, source, lenient, next, inner)?;
     let (_, behind) = source.expect(end, Test::Is(TokenKind::RightBracket))?;
-    Ok((Expr::Array(open.span, xs), behind, left))
+    let kept = trimmed(alloc, xs)?;
+    Ok((Expr::Array(open.span, kept), behind, left))
 }
 
 /// The elements of an array, perhaps none. A comma may follow the last.
@@ -613,9 +615,10 @@ fn string(alloc: Global, source: &Source, lenient: bool, at: usize, room: Room) 
     let (last, behind) = source.expect(end, Test::Is(TokenKind::StringLast))?;
     let piece = literals::piece(x, last)?;
     pieces.push(piece)?;
+    let kept = trimmed(alloc, pieces)?;
     let text = start.text.copy()?;
     Ok((
-        Expr::Literal(start.span, Literal::String(text, pieces)),
+        Expr::Literal(start.span, Literal::String(text, kept)),
         behind,
         left,
     ))

@@ -34,6 +34,7 @@ fn number_of(digits: &[u8]) -> i64
     so_far as i64
 }
 
+/// The expression of an integer.
 pub fn integer(token: &Token) -> Expr
     requires { number 0 token.now.text ≤ 9223372036854775807 }
     ensures { result ≡ Expr.Literal token.now.span (spec.integer_of (token_face token.now)) }
@@ -53,6 +54,7 @@ fn is_true(kind: TokenKind) -> bool
     }
 }
 
+/// The expression of `true` or `false`.
 pub fn boolean(token: &Token) -> Expr
     ensures { result ≡ Expr.Literal token.now.span (Literal.Bool (spec.bool_of token.now.kind)) }
 {

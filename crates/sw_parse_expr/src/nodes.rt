@@ -11,6 +11,7 @@ use sw_base::{Duplicate, NoMemory, Span};
 use sw_lex::{Token, TokenKind};
 use sw_tree::{Argument, BinaryOperator, Expr, Name, PrefixOperator, TryForm};
 
+/// The sign that a token is.
 pub fn prefix_operator(kind: TokenKind) -> PrefixOperator
     ensures { result ≡ spec.prefix_of kind }
 {
@@ -20,6 +21,7 @@ pub fn prefix_operator(kind: TokenKind) -> PrefixOperator
     }
 }
 
+/// The binary operator that a token is.
 pub fn binary_operator(kind: TokenKind) -> BinaryOperator
     ensures { result ≡ spec.binary_of kind }
 {
@@ -51,6 +53,7 @@ pub fn name(token: &Token) -> Result<Name, NoMemory>
     })
 }
 
+/// An expression behind its `try` or `try?`, if it has one.
 pub fn tried(alloc: Global, mark: Option<(Span, bool)>, x: Expr) -> Result<Expr, AllocError>
     ensures { IfOk result (λ y. y ≡ spec.tried mark x) }
 {
@@ -67,6 +70,7 @@ pub fn tried(alloc: Global, mark: Option<(Span, bool)>, x: Expr) -> Result<Expr,
     }
 }
 
+/// An expression behind its `await`, if it has one.
 pub fn awaited(alloc: Global, mark: Option<Span>, x: Expr) -> Result<Expr, AllocError>
     ensures { IfOk result (λ y. y ≡ spec.awaited mark x) }
 {
@@ -89,6 +93,7 @@ pub fn with_marks(
     tried(alloc, try_mark, x)
 }
 
+/// A condition and the two expressions that it chooses between.
 pub fn ternary(alloc: Global, condition: Expr, x: Expr, y: Expr) -> Result<Expr, AllocError>
     ensures { IfOk result (λ z. z ≡ Expr.Ternary condition x y) }
 {
@@ -115,6 +120,7 @@ pub fn prefix(alloc: Global, sign: &Token, x: Expr) -> Result<Expr, AllocError>
     Ok(Expr::Prefix(prefix_operator(sign.kind), sign.span, x))
 }
 
+/// A member of a base, by the token of its name.
 pub fn member(alloc: Global, base: Expr, token: &Token) -> Result<Expr, NoMemory>
     ensures { IfOk result (λ y. y ≡ Expr.Member base (spec.name_of (token_face token.now))) }
 {
@@ -122,6 +128,7 @@ pub fn member(alloc: Global, base: Expr, token: &Token) -> Result<Expr, NoMemory
     Ok(Expr::Member(Boxed::new(alloc, base)?, member))
 }
 
+/// A call of a base, with its arguments.
 pub fn call(
     alloc: Global,
     base: Expr,
@@ -133,6 +140,7 @@ pub fn call(
     Ok(Expr::Call(Boxed::new(alloc, base)?, at, arguments))
 }
 
+/// A base with an index.
 pub fn index(alloc: Global, base: Expr, at: Span, x: Expr) -> Result<Expr, AllocError>
     ensures { IfOk result (λ y. y ≡ Expr.Index base at x) }
 {
@@ -140,30 +148,35 @@ pub fn index(alloc: Global, base: Expr, at: Span, x: Expr) -> Result<Expr, Alloc
     Ok(Expr::Index(base, at, Boxed::new(alloc, x)?))
 }
 
+/// A base with `!` behind it.
 pub fn force(alloc: Global, base: Expr, at: Span) -> Result<Expr, AllocError>
     ensures { IfOk result (λ y. y ≡ Expr.Force base at) }
 {
     Ok(Expr::Force(Boxed::new(alloc, base)?, at))
 }
 
+/// An expression in brackets.
 pub fn paren(alloc: Global, at: Span, x: Expr) -> Result<Expr, AllocError>
     ensures { IfOk result (λ y. y ≡ Expr.Paren at x) }
 {
     Ok(Expr::Paren(at, Boxed::new(alloc, x)?))
 }
 
+/// The name that a token spells, as an expression.
 pub fn named(token: &Token) -> Result<Expr, NoMemory>
     ensures { IfOk result (λ x. x ≡ Expr.Name (spec.name_of (token_face token.now))) }
 {
     Ok(Expr::Name(name(token)?))
 }
 
+/// The name behind a `.` that has no base.
 pub fn implicit(at: Span, token: &Token) -> Result<Expr, NoMemory>
     ensures { IfOk result (λ x. x ≡ Expr.Implicit at (spec.name_of (token_face token.now))) }
 {
     Ok(Expr::Implicit(at, name(token)?))
 }
 
+/// A value behind its label.
 pub fn labelled(token: &Token, value: Expr) -> Result<Argument, NoMemory>
     ensures { IfOk result (λ x. x ≡ record { label = Some (spec.name_of (token_face token.now)); value = value }) }
 {

@@ -13,7 +13,7 @@ use sqlite_items::Items;
 use std::alloc::Global;
 use sw_base::{Duplicate, Span};
 use sw_lex::TokenKind;
-use sw_syntax::{Room, Source, Stop, Test};
+use sw_syntax::{Room, Source, Stop, Test, trimmed};
 use sw_tree::Literal;
 
 /// What was read, the place after it, and how many more parts may be counted.
@@ -83,10 +83,7 @@ fn string(
     let (last, behind) = source.expect(end, Test::Is(TokenKind::StringLast))?;
     let piece = literals::piece(x, last)?;
     pieces.push(piece)?;
+    let kept = trimmed(alloc, pieces)?;
     let text = start.text.copy()?;
-    Ok((
-        (start.span, Literal::String(text, pieces)),
-        behind,
-        room.left,
-    ))
+    Ok(((start.span, Literal::String(text, kept)), behind, room.left))
 }

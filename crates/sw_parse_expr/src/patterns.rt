@@ -13,7 +13,7 @@ use crate::nodes;
 use sqlite_items::Items;
 use std::alloc::Global;
 use sw_lex::TokenKind;
-use sw_syntax::{Room, Source, Stop, Test};
+use sw_syntax::{Room, Source, Stop, Test, trimmed};
 use sw_tree::{Bind, CatchPattern};
 
 /// What was read, the place after it, and how many more parts may be counted.
@@ -70,7 +70,8 @@ fn bind_list(
         end = y_end;
         left = y_left;
     }
-    Ok((xs, end, left))
+    let kept = trimmed(alloc, xs)?;
+    Ok((kept, end, left))
 }
 
 /// Binds in brackets, if they stand there.

@@ -18,7 +18,7 @@ use crate::steps::{Step, returned, separator};
 use sqlite_items::Items;
 use std::alloc::Global;
 use sw_lex::TokenKind;
-use sw_syntax::{Opening, Room, Source, Stop, Test, stands};
+use sw_syntax::{Opening, Room, Source, Stop, Test, stands, trimmed};
 use sw_tree::Block;
 
 /// Statements of a body, and whether an arm of a `switch` stands behind them.
@@ -49,7 +49,8 @@ pub fn block(alloc: Global, source: &Source, lenient: bool, at: usize, room: Roo
     };
     let (run, end, left) = body(alloc, source, lenient, next, inner)?;
     let (_, behind) = source.expect(end, Test::Is(TokenKind::RightBrace))?;
-    Ok((run.block, behind, left))
+    let kept = trimmed(alloc, run.block)?;
+    Ok((kept, behind, left))
 }
 
 /// The statements at this place, up to where none begins.
@@ -66,7 +67,8 @@ pub fn statements(
     ensures inside { Inside (length source.now) result }
 {
     let (run, end, left) = body(alloc, source, lenient, at, room)?;
-    Ok((run.block, end, left))
+    let kept = trimmed(alloc, run.block)?;
+    Ok((kept, end, left))
 }
 
 /// The statements of a body, perhaps none. They are read alike in a block and in an arm of a `switch`.

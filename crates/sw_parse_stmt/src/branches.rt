@@ -15,7 +15,7 @@ use crate::parts::conditions;
 use sqlite_items::Items;
 use std::alloc::Global;
 use sw_lex::TokenKind;
-use sw_syntax::{Opening, Room, Source, Stop, Test, stands};
+use sw_syntax::{Opening, Room, Source, Stop, Test, stands, trimmed};
 use sw_tree::{Branch, Stmt};
 
 /// `if` with its conditions and its block.
@@ -75,9 +75,11 @@ pub fn if_statement(
         left = other_left;
     }
     if !stands(source, end, Opening::Else) {
-        return Ok((Stmt::If(first, others, None), end, room.left));
+        let kept = trimmed(alloc, others)?;
+        return Ok((Stmt::If(first, kept, None), end, room.left));
     }
     let (_, next) = source.take(end);
     let (body, behind, _) = block(alloc, source, lenient, next, Room { left, ..room })?;
-    Ok((Stmt::If(first, others, Some(body)), behind, room.left))
+    let kept = trimmed(alloc, others)?;
+    Ok((Stmt::If(first, kept, Some(body)), behind, room.left))
 }

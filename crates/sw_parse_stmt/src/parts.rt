@@ -9,7 +9,7 @@ use sqlite_items::Items;
 use std::alloc::Global;
 use sw_lex::TokenKind;
 use sw_parse_expr::{catch_pattern, condition, expr, pattern, type_};
-use sw_syntax::{Opening, Room, Source, Stop, Test, stands};
+use sw_syntax::{Opening, Room, Source, Stop, Test, stands, trimmed};
 use sw_tree::{ArmLabel, CatchPattern, Condition, Name, Pattern, RangeEnd, Type};
 
 /// The `:` and the type at this place, if they stand there.
@@ -60,7 +60,8 @@ pub fn conditions(
         end = y_end;
         left = y_left;
     }
-    Ok((xs, end, left))
+    let kept = trimmed(alloc, xs)?;
+    Ok((kept, end, left))
 }
 
 /// The name of a `for`, or its `_`.
@@ -150,7 +151,8 @@ fn patterns(
         end = y_end;
         left = y_left;
     }
-    Ok((xs, end, left))
+    let kept = trimmed(alloc, xs)?;
+    Ok((kept, end, left))
 }
 
 /// `case` and its patterns, or `default`.

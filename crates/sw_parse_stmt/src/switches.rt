@@ -16,7 +16,7 @@ use sqlite_items::Items;
 use std::alloc::Global;
 use sw_lex::TokenKind;
 use sw_parse_expr::expr;
-use sw_syntax::{Opening, Room, Source, Stop, Test, stands};
+use sw_syntax::{Opening, Room, Source, Stop, Test, stands, trimmed};
 use sw_tree::{Stmt, SwitchArm};
 
 /// The arms between the braces of a `switch`, perhaps none.
@@ -51,13 +51,14 @@ fn arms(
             ..room
         };
         let (run, run_end, run_left) = body(alloc, source, lenient, next, inner)?;
-        let body = run.block;
+        let body = trimmed(alloc, run.block)?;
         xs.push(SwitchArm { label, body })?;
         before_arm = run.before_arm;
         end = run_end;
         left = run_left;
     }
-    Ok((xs, end, left))
+    let kept = trimmed(alloc, xs)?;
+    Ok((kept, end, left))
 }
 
 /// The braces of a `switch` and the arms between them.

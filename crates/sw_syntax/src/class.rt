@@ -384,6 +384,7 @@ impl Sight {
             || self.class.is_reserved() && (self.before_colon || !self.starts_expr())
     }
 
+    /// Tells whether the token that was seen passes the test.
     pub fn passes(self, test: Test) -> bool
         ensures { result ≡ passes test (whole self) }
     {

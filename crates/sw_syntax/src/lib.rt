@@ -8,9 +8,11 @@
 mod class;
 mod decl_tests;
 mod laws;
+mod lists;
 mod source;
 
 pub use class::{Class, Sight, Test, same_kind};
 pub use decl_tests::{Opening, expect_opening, stands};
 pub use laws::{lexed_integers_fit, one_tree, readings_answer};
+pub use lists::trimmed;
 pub use source::{Room, Source, Stop};

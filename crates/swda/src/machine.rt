@@ -287,7 +287,7 @@ fn text_of(alloc: Global, value: Value) -> Result<Option<Text>, NoMemory>
     ensures { IfOk result (λ text. text ≡ printed value) }
 {
     match value {
-        Value::Int(n) => Ok(Some(Text::from(n.to_string(alloc)?.into_bytes()))),
+        Value::Int(n) => Ok(Some(Text::from_vec(alloc, n.to_string(alloc)?.into_bytes())?)),
         Value::Str(text) => Ok(Some(text)),
         Value::Void => Ok(None),
     }

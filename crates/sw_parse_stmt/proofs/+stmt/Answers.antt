@@ -32,7 +32,7 @@ bodies::block-returns-in_err-behind-clause-gives t c =
     rw (p.1, p.2) (passes _ _ _ _ _ (after _ _ _ _ _ _ (stmt.block_open _ _ _ _ _ _ _ c.if-room-eq0.false (c.take-next.ensures.taken (is k.LeftBrace) (sym c.is.ensures.value ∙ c.if-not-is.false))) (c.in_ok-run.ensures.gives symbol.InBlock)) (c.in_err-behind.ensures.gives c.in_ok-run.left))
 
 pub bodies::block-returns-clause-gives : goal.bodies::block-returns-clause-gives
-bodies::block-returns-clause-gives t c = after _ _ _ _ _ _ (after _ _ _ _ _ _ (stmt.block_open _ _ _ _ _ _ _ c.if-room-eq0.false (c.take-next.ensures.taken (is k.LeftBrace) (sym c.is.ensures.value ∙ c.if-not-is.false))) (c.in_ok-run.ensures.gives symbol.InBlock)) (c.in_ok-behind.ensures.gives c.in_ok-run.left)
+bodies::block-returns-clause-gives t c = rw (c.in_ok-kept.ensures) (after _ _ _ _ _ _ (after _ _ _ _ _ _ (stmt.block_open _ _ _ _ _ _ _ c.if-room-eq0.false (c.take-next.ensures.taken (is k.LeftBrace) (sym c.is.ensures.value ∙ c.if-not-is.false))) (c.in_ok-run.ensures.gives symbol.InBlock)) (c.in_ok-behind.ensures.gives c.in_ok-run.left))
 
 pub bodies::body-statements-init : goal.bodies::body-statements-init
 bodies::body-statements-init t c = record {
@@ -118,7 +118,7 @@ branches::if_statement-branches-preserved t c = record {
 }
 
 pub branches::if_statement-returns-then-not-stands-clause-gives : goal.branches::if_statement-returns-then-not-stands-clause-gives
-branches::if_statement-returns-then-not-stands-clause-gives t c = after _ _ _ _ _ _ (stmt.closed_if _ _ _ _ _ c.requires) (c.branches.invariant.so_far ∙ branch.branches_none _ _ _ _ _ _ _ (sym c.stands-2.ensures.value ∙ c.if-not-stands.true) (sym c.stands.ensures.value ∙ c.branches-test.false))
+branches::if_statement-returns-then-not-stands-clause-gives t c = rw (c.in_ok-kept.ensures) (after _ _ _ _ _ _ (stmt.closed_if _ _ _ _ _ c.requires) (c.branches.invariant.so_far ∙ branch.branches_none _ _ _ _ _ _ _ (sym c.stands-2.ensures.value ∙ c.if-not-stands.true) (sym c.stands.ensures.value ∙ c.branches-test.false)))
 
 pub branches::if_statement-returns-in_err-body-clause-gives : goal.branches::if_statement-returns-in_err-body-clause-gives
 branches::if_statement-returns-in_err-body-clause-gives t c =
@@ -126,7 +126,7 @@ branches::if_statement-returns-in_err-body-clause-gives t c =
     rw (p.1, p.2) (passes _ _ _ _ _ (stmt.closed_if _ _ _ _ _ c.requires) (passes _ _ _ _ _ (c.branches.invariant.so_far ∙ branch.branches_else _ _ _ _ _ _ _ _ _ (sym c.stands-2.ensures.value ∙ c.if-not-stands.false) (c.take-next-2.ensures.taken is_else (sym c.stands-2.ensures.value ∙ c.if-not-stands.false))) (c.in_err-body.ensures.gives)))
 
 pub branches::if_statement-returns-clause-gives : goal.branches::if_statement-returns-clause-gives
-branches::if_statement-returns-clause-gives t c = after _ _ _ _ _ _ (stmt.closed_if _ _ _ _ _ c.requires) (after _ _ _ _ _ _ (c.branches.invariant.so_far ∙ branch.branches_else _ _ _ _ _ _ _ _ _ (sym c.stands-2.ensures.value ∙ c.if-not-stands.false) (c.take-next-2.ensures.taken is_else (sym c.stands-2.ensures.value ∙ c.if-not-stands.false))) (c.in_ok-body.ensures.gives))
+branches::if_statement-returns-clause-gives t c = rw (c.in_ok-kept-2.ensures) (after _ _ _ _ _ _ (stmt.closed_if _ _ _ _ _ c.requires) (after _ _ _ _ _ _ (c.branches.invariant.so_far ∙ branch.branches_else _ _ _ _ _ _ _ _ _ (sym c.stands-2.ensures.value ∙ c.if-not-stands.false) (c.take-next-2.ensures.taken is_else (sym c.stands-2.ensures.value ∙ c.if-not-stands.false))) (c.in_ok-body.ensures.gives)))
 
 pub nested::guard_statement-returns-in_err-conditions-clause-gives : goal.nested::guard_statement-returns-in_err-conditions-clause-gives
 nested::guard_statement-returns-in_err-conditions-clause-gives t c =
@@ -212,7 +212,7 @@ nested::catches-catches-preserved t c = record {
 }
 
 pub nested::catches-returns-clause-gives : goal.nested::catches-returns-clause-gives
-nested::catches-returns-clause-gives t c = c.catches.invariant.so_far ∙ stmt.catches_end _ _ _ _ _ _ (sym c.is.ensures.value ∙ c.catches-test.false)
+nested::catches-returns-clause-gives t c = rw (c.in_ok-kept.ensures) (c.catches.invariant.so_far ∙ stmt.catches_end _ _ _ _ _ _ (sym c.is.ensures.value ∙ c.catches-test.false))
 
 pub nested::do_statement-returns-in_err-body-clause-gives : goal.nested::do_statement-returns-in_err-body-clause-gives
 nested::do_statement-returns-in_err-body-clause-gives t c =
@@ -251,13 +251,13 @@ switches::arms-returns-in_err-run-clause-gives t c =
 
 pub switches::arms-arms-preserved : goal.switches::arms-arms-preserved
 switches::arms-arms-preserved t c = record {
-  so_far = after _ _ _ _ _ _ (after _ _ _ _ _ _ (c.arms.invariant.so_far ∙ ap (λ b. behind_arms c.args.lenient c.args.room.brackets c.args.room.limit c.arms.left c.arms.xs b (drop c.arms.end c.args.source.now)) c.arms-test.true ∙ stmt.arms_label _ _ _ _ _ _) (c.in_ok-label.ensures.gives)) (c.in_ok-next.ensures.gives c.in_ok-label.label_left) ∙ arm_then _ _ _ _ _ _ _ _ _ _ (c.in_ok-run.ensures.gives symbol.InArm) ∙ ap (λ l. behind_arms c.args.lenient c.args.room.brackets c.args.room.limit c.in_ok-run.run_left l c.in_ok-run.run'.before_arm (drop c.in_ok-run.run_end c.args.source.now)) (sym c.in_ok-push.ensures.ok);
+  so_far = after _ _ _ _ _ _ (after _ _ _ _ _ _ (c.arms.invariant.so_far ∙ ap (λ b. behind_arms c.args.lenient c.args.room.brackets c.args.room.limit c.arms.left c.arms.xs b (drop c.arms.end c.args.source.now)) c.arms-test.true ∙ stmt.arms_label _ _ _ _ _ _) (c.in_ok-label.ensures.gives)) (c.in_ok-next.ensures.gives c.in_ok-label.label_left) ∙ arm_then _ _ _ _ _ _ _ _ _ _ (c.in_ok-run.ensures.gives symbol.InArm) ∙ ap (λ l. behind_arms c.args.lenient c.args.room.brackets c.args.room.limit c.in_ok-run.run_left l c.in_ok-run.run'.before_arm (drop c.in_ok-run.run_end c.args.source.now)) (ap (λ b. c.arms.xs ++ record { label = c.in_ok-label.label; body = b } ∷ []) (sym c.in_ok-body.ensures) ∙ sym c.in_ok-push.ensures.ok);
   moves = omega (arith, c.in_ok-run.ensures.stays, c.in_ok-next.ensures.moves, c.in_ok-label.ensures.moves, c.arms.invariant.moves);
   inside = c.in_ok-run.ensures.inside;
 }
 
 pub switches::arms-returns-clause-gives : goal.switches::arms-returns-clause-gives
-switches::arms-returns-clause-gives t c = c.arms.invariant.so_far ∙ ap (λ b. behind_arms c.args.lenient c.args.room.brackets c.args.room.limit c.arms.left c.arms.xs b (drop c.arms.end c.args.source.now)) c.arms-test.false
+switches::arms-returns-clause-gives t c = rw (c.in_ok-kept.ensures) (c.arms.invariant.so_far ∙ ap (λ b. behind_arms c.args.lenient c.args.room.brackets c.args.room.limit c.arms.left c.arms.xs b (drop c.arms.end c.args.source.now)) c.arms-test.false)
 
 pub switches::arm_block-returns-then-not-is-clause-gives : goal.switches::arm_block-returns-then-not-is-clause-gives
 switches::arm_block-returns-then-not-is-clause-gives t c = stmt.switch_none _ _ _ _ _ (sym c.is.ensures.value ∙ c.if-not-is.true)

@@ -32,4 +32,4 @@ cases-preserved c = record {
 }
 
 pub returns-clause-gives : goal.returns-clause-gives
-returns-clause-gives c = c.cases.invariant.so_far ∙ member.cases_end _ _ _ _ _ _ (sym c.is.ensures.value ∙ c.cases-test.false)
+returns-clause-gives c = rw (c.in_ok-kept.ensures) (c.cases.invariant.so_far ∙ member.cases_end _ _ _ _ _ _ (sym c.is.ensures.value ∙ c.cases-test.false))

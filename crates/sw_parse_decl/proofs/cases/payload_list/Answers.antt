@@ -36,4 +36,4 @@ payloads-preserved c = record {
 }
 
 pub returns-clause-gives : goal.returns-clause-gives
-returns-clause-gives c = c.payloads.invariant.so_far ∙ member.payloads_end _ _ _ _ _ _ (sym c.is.ensures.value ∙ c.payloads-test.false)
+returns-clause-gives c = rw (c.in_ok-kept.ensures) (c.payloads.invariant.so_far ∙ member.payloads_end _ _ _ _ _ _ (sym c.is.ensures.value ∙ c.payloads-test.false))

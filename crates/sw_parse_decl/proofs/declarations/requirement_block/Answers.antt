@@ -24,4 +24,4 @@ returns-in_err-behind-clause-gives c =
     rw (p.1, p.2) (passes _ _ _ _ _ (after _ _ _ _ _ _ (decl.item_block_open _ symbol.Requirements _ _ _ _ _ _ c.if-room-eq0.false (c.take-next.ensures.taken (is k.LeftBrace) (sym c.is.ensures.value ∙ c.if-not-is.false))) (c.in_ok-xs.ensures.gives)) (c.in_err-behind.ensures.gives c.in_ok-xs.left))
 
 pub returns-clause-gives : goal.returns-clause-gives
-returns-clause-gives c = after _ _ _ _ _ _ (after _ _ _ _ _ _ (decl.item_block_open _ symbol.Requirements _ _ _ _ _ _ c.if-room-eq0.false (c.take-next.ensures.taken (is k.LeftBrace) (sym c.is.ensures.value ∙ c.if-not-is.false))) (c.in_ok-xs.ensures.gives)) (c.in_ok-behind.ensures.gives c.in_ok-xs.left)
+returns-clause-gives c = rw (c.in_ok-kept.ensures) (after _ _ _ _ _ _ (after _ _ _ _ _ _ (decl.item_block_open _ symbol.Requirements _ _ _ _ _ _ c.if-room-eq0.false (c.take-next.ensures.taken (is k.LeftBrace) (sym c.is.ensures.value ∙ c.if-not-is.false))) (c.in_ok-xs.ensures.gives)) (c.in_ok-behind.ensures.gives c.in_ok-xs.left))

@@ -36,4 +36,4 @@ names-preserved c = record {
 }
 
 pub returns-clause-gives : goal.returns-clause-gives
-returns-clause-gives c = c.names.invariant.so_far ∙ decl.names_end _ _ _ _ _ _ (sym c.is-in-names.ensures.value ∙ c.names-test.false)
+returns-clause-gives c = rw (c.in_ok-kept.ensures) (c.names.invariant.so_far ∙ decl.names_end _ _ _ _ _ _ (sym c.is-in-names.ensures.value ∙ c.names-test.false))

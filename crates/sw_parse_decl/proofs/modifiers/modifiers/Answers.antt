@@ -12,4 +12,4 @@ modifiers-preserved c = record {
 }
 
 pub returns-clause-gives : goal.returns-clause-gives
-returns-clause-gives c = c.modifiers.invariant.so_far ∙ decl.mods_end _ _ _ _ _ _ (sym c.stands.ensures.value ∙ c.modifiers-test.false)
+returns-clause-gives c = rw (c.in_ok-kept.ensures) (c.modifiers.invariant.so_far ∙ decl.mods_end _ _ _ _ _ _ (sym c.stands.ensures.value ∙ c.modifiers-test.false))

@@ -36,4 +36,4 @@ parameters-preserved c = record {
 }
 
 pub returns-clause-gives : goal.returns-clause-gives
-returns-clause-gives c = c.parameters.invariant.so_far ∙ member.more_params_end _ _ _ _ _ _ (sym c.is.ensures.value ∙ c.parameters-test.false)
+returns-clause-gives c = rw (c.in_ok-kept.ensures) (c.parameters.invariant.so_far ∙ member.more_params_end _ _ _ _ _ _ (sym c.is.ensures.value ∙ c.parameters-test.false))

@@ -232,7 +232,7 @@ arguments-arguments-preserved t c = record {
 }
 
 pub arguments-returns-clause-gives : goal.arguments-returns-clause-gives
-arguments-returns-clause-gives t c = c.arguments.invariant.so_far ∙ form.more_args_end _ _ _ _ _ _ (sym c.is-in-arguments.ensures.value ∙ c.arguments-test.false)
+arguments-returns-clause-gives t c = rw (c.in_ok-kept.ensures) (c.arguments.invariant.so_far ∙ form.more_args_end _ _ _ _ _ _ (sym c.is-in-arguments.ensures.value ∙ c.arguments-test.false))
 
 pub argument-returns-in_err-behind-clause-gives : goal.argument-returns-in_err-behind-clause-gives
 argument-returns-in_err-behind-clause-gives t c =
@@ -311,7 +311,7 @@ array-returns-in_err-behind-clause-gives t c =
     rw (p.1, p.2) (passes _ _ _ _ _ (after _ _ _ _ _ _ (prim.prim_array _ _ _ _ _ _ _ c.requires.0 c.requires.1 c.requires.2 c.if-room-eq0.false (c.take-next.ensures.taken (is k.LeftBracket) (sym c.is.ensures.value ∙ c.if-not-is.false))) (c.in_ok-xs.ensures.gives)) (c.in_err-behind.ensures.gives c.in_ok-xs.left))
 
 pub array-returns-clause-gives : goal.array-returns-clause-gives
-array-returns-clause-gives t c = after _ _ _ _ _ _ (after _ _ _ _ _ _ (prim.prim_array _ _ _ _ _ _ _ c.requires.0 c.requires.1 c.requires.2 c.if-room-eq0.false (c.take-next.ensures.taken (is k.LeftBracket) (sym c.is.ensures.value ∙ c.if-not-is.false))) (c.in_ok-xs.ensures.gives)) (c.in_ok-behind.ensures.gives c.in_ok-xs.left)
+array-returns-clause-gives t c = rw (c.in_ok-kept.ensures) (after _ _ _ _ _ _ (after _ _ _ _ _ _ (prim.prim_array _ _ _ _ _ _ _ c.requires.0 c.requires.1 c.requires.2 c.if-room-eq0.false (c.take-next.ensures.taken (is k.LeftBracket) (sym c.is.ensures.value ∙ c.if-not-is.false))) (c.in_ok-xs.ensures.gives)) (c.in_ok-behind.ensures.gives c.in_ok-xs.left))
 
 pub elements-elements-init : goal.elements-elements-init
 elements-elements-init t c = record {
@@ -380,4 +380,4 @@ string-returns-in_err-last-clause-gives t c =
     rw (p.1, p.2) (passes _ _ _ _ _ (c.pieces.invariant.so_far ∙ prim.string_last _ _ _ _ _ _ _ _ _ (sym c.is.ensures.value ∙ c.pieces-test.false)) (c.in_err-last.ensures.gives c.pieces.left))
 
 pub string-returns-clause-gives : goal.string-returns-clause-gives
-string-returns-clause-gives t c = after _ _ _ _ _ _ (c.pieces.invariant.so_far ∙ prim.string_last _ _ _ _ _ _ _ _ _ (sym c.is.ensures.value ∙ c.pieces-test.false)) (c.in_ok-last.ensures.gives c.pieces.left) ∙ string_node _ _ _ _ _ _ _ _ _ _ c.in_ok-text.ensures c.in_ok-push-2.ensures.ok c.in_ok-piece-2.ensures
+string-returns-clause-gives t c = rw (c.in_ok-kept.ensures) (after _ _ _ _ _ _ (c.pieces.invariant.so_far ∙ prim.string_last _ _ _ _ _ _ _ _ _ (sym c.is.ensures.value ∙ c.pieces-test.false)) (c.in_ok-last.ensures.gives c.pieces.left) ∙ string_node _ _ _ _ _ _ _ _ _ _ c.in_ok-text.ensures c.in_ok-push-2.ensures.ok c.in_ok-piece-2.ensures)

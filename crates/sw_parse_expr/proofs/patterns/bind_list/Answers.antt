@@ -36,4 +36,4 @@ binds-preserved c = record {
 }
 
 pub returns-clause-gives : goal.returns-clause-gives
-returns-clause-gives c = c.binds.invariant.so_far ∙ pat.binds_end _ _ _ _ _ _ (sym c.is.ensures.value ∙ c.binds-test.false)
+returns-clause-gives c = rw (c.in_ok-kept.ensures) (c.binds.invariant.so_far ∙ pat.binds_end _ _ _ _ _ _ (sym c.is.ensures.value ∙ c.binds-test.false))

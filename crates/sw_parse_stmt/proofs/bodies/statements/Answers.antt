@@ -13,4 +13,4 @@ returns-in_err-run-clause-gives c =
     rw (p.1, p.2) (going_passes {A = Run} (ended c.args.lenient symbol.InBlock c.args.room.brackets c.args.room.limit) _ _ _ _ _ (list_of_body _ _ _ _ _) (c.in_err-run.ensures.gives symbol.InBlock))
 
 pub returns-clause-gives : goal.returns-clause-gives
-returns-clause-gives c = after _ _ _ _ _ _ (list_of_body _ _ _ _ _) (c.in_ok-run.ensures.gives symbol.InBlock)
+returns-clause-gives c = rw (c.in_ok-kept.ensures) (after _ _ _ _ _ _ (list_of_body _ _ _ _ _) (c.in_ok-run.ensures.gives symbol.InBlock))

@@ -32,4 +32,4 @@ conditions-preserved c = record {
 }
 
 pub returns-clause-gives : goal.returns-clause-gives
-returns-clause-gives c = c.conditions.invariant.so_far ∙ branch.conds_end _ _ _ _ _ _ (sym c.is.ensures.value ∙ c.conditions-test.false)
+returns-clause-gives c = rw (c.in_ok-kept.ensures) (c.conditions.invariant.so_far ∙ branch.conds_end _ _ _ _ _ _ (sym c.is.ensures.value ∙ c.conditions-test.false))

@@ -36,4 +36,4 @@ patterns-preserved c = record {
 }
 
 pub returns-clause-gives : goal.returns-clause-gives
-returns-clause-gives c = c.patterns.invariant.so_far ∙ stmt.patterns_end _ _ _ _ _ _ (sym c.is.ensures.value ∙ c.patterns-test.false)
+returns-clause-gives c = rw (c.in_ok-kept.ensures) (c.patterns.invariant.so_far ∙ stmt.patterns_end _ _ _ _ _ _ (sym c.is.ensures.value ∙ c.patterns-test.false))

@@ -16,7 +16,7 @@ pub returns-in_default-2 : goal.returns-in_default-2
 returns-in_default-2 c = none_thin _ _ (some_of _ _ _ _ c.main_statements.ensures c.in-Some.is) (none_of _ _ c.in_ok-body.ensures c.in_default-2.is)
 
 pub returns-then-as_bytes-gt-MOST_BYTES : goal.returns-then-as_bytes-gt-MOST_BYTES
-returns-then-as_bytes-gt-MOST_BYTES c = too_long _ _ c.in-Some-2.body _ (some_of _ _ _ _ c.main_statements.ensures c.in-Some.is) (some_of _ _ _ _ c.in_ok-body.ensures c.in-Some-2.is) (c.as_bytes-2.ensures ∙ (c.in_ok-shortest.ensures ∙ ap (λ b. first_line ++ (flat_map line_of b ++ last_line)) c.as_slice.ensures)) c.if-as_bytes-gt-MOST_BYTES.true
+returns-then-as_bytes-gt-MOST_BYTES c = too_long _ _ c.in-Some-2.body _ (some_of _ _ _ _ c.main_statements.ensures c.in-Some.is) (some_of _ _ _ _ c.in_ok-body.ensures c.in-Some-2.is) (c.as_bytes.ensures ∙ (c.in_ok-shortest.ensures ∙ ap (λ b. first_line ++ (flat_map line_of b ++ last_line)) c.as_slice.ensures)) c.if-as_bytes-gt-MOST_BYTES.true
 
 pub returns : goal.returns
-returns c = is_thin_tree _ _ c.in-Some-2.body _ (some_of _ _ _ _ c.main_statements.ensures c.in-Some.is) (some_of _ _ _ _ c.in_ok-body.ensures c.in-Some-2.is) c.if-trees-gt-MOST_STMTS.false (c.as_bytes-2.ensures ∙ (c.in_ok-shortest.ensures ∙ ap (λ b. first_line ++ (flat_map line_of b ++ last_line)) c.as_slice.ensures)) c.if-as_bytes-gt-MOST_BYTES.false
+returns c = is_thin_tree _ _ c.in-Some-2.body _ (some_of _ _ _ _ c.main_statements.ensures c.in-Some.is) (some_of _ _ _ _ c.in_ok-body.ensures c.in-Some-2.is) c.if-trees-gt-MOST_STMTS.false (c.as_bytes.ensures ∙ (c.in_ok-shortest.ensures ∙ ap (λ b. first_line ++ (flat_map line_of b ++ last_line)) c.as_slice.ensures)) c.if-as_bytes-gt-MOST_BYTES.false
