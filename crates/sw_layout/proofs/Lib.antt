@@ -1,0 +1,15 @@
+mod Utf8
+mod Lexed
+mod Questions
+mod Starts
+mod MarkTable
+mod Escaping
+mod WordForms
+mod RowCut
+mod RowFlags
+mod FixedWords
+mod PageLemmas
+mod OneString
+mod OneForm
+mod PageRules
+mod Example
