@@ -1,0 +1,118 @@
+-- Words that are made for lists, brackets, parts with a count of their own, and parts whose first token passes a test.
+use Rattle.std.proofs.Common.{◌≡◌, ℕ, zero, suc, Bool, true, false, List, [], ◌∷◌, ◌++◌, map, Some, None, refl, sym, ap, ◌∙◌}
+use Rattle.sw_lex.specs.declared.token.TokenKind.TheVariants as k
+use Rattle.sw_lex.specs.declared.token.Token.{Token}
+use Rattle.sw_grammar.specs.Grammar.{Heads, sym as symbol, many, maybe, then_if, when, limited}
+use Rattle.sw_layout.specs.declared.gap.Gap.{Gap}
+use Rattle.sw_layout.specs.declared.gap.Gap.TheVariants as gap
+use Rattle.sw_layout.specs.Words.{Word, plain, token_of}
+use Rattle.sw_places.specs.Places.{unplaced}
+use Rattle.sw_syntax.specs.Tokens.{same_kind, Sighted}
+use Rattle.sw_syntax.specs.Symbols.{Symbol, Sort, Expr, Type'}
+use Rattle.sw_syntax.specs.Parts.{P, tok, behind as behind_mark, some, any, in_parens as parens_of, in_braces as braces_of, whole_expr, whole_type}
+use Rattle.sw_syntax.specs.Grammar.{rule}
+use Rattle.sw_print.specs.Seen.{seen_in}
+use Rattle.sw_print.specs.Expressions.{W, listed, others, perhaps, type_words}
+use Rattle.sw_print.specs.Statements.{in_braces}
+use Rattle.sw_print.proofs.Spelling.Making.{Made, make_both, make_gives, make_none, make_some, make_nest, make_nil, make_cons, reword}
+use Rattle.sw_print.proofs.Spelling.Marks.{BuiltOf, make_tok}
+use Rattle.sw_print.proofs.Spelling.Texts.{spelt, PartAgain}
+use Rattle.sw_print.proofs.Spelling.TypeWords.{TypeAgain}
+
+-- a test that does not look at a token's place
+abbrev pub NoPlace : (Sighted → Bool) → Type 0
+NoPlace f = (t : Sighted) → f t ≡ f (unplaced t)
+
+first_same : {A : Type 0} (a b : A) (u v : List A) → (a ∷ u) ≡ (b ∷ v) → a ≡ b
+first_same a b u v h = cc
+
+-- of runs that are alike but for places, the first token of one passes where that of the other does
+pub heads_alike : (f : Sighted → Bool) → NoPlace f → (u v : List Sighted) → map unplaced u ≡ map unplaced v → Heads f v → Heads f u
+heads_alike f same [] v alike h = tt
+heads_alike f same (t ∷ u) [] alike h = absurd (cc)
+heads_alike f same (t ∷ u) (s ∷ v) alike h = same t ∙ ap f (first_same (unplaced t) (unplaced s) _ _ alike) ∙ sym (same s) ∙ h
+
+module _ (D : (s : Symbol) → ℕ → ℕ → ℕ → ℕ → List Sighted → Sort s → Type 0) where
+  pub make_limited : {A : Type 0} {a : P A} {d l c m e : ℕ} {x : A} {w : List Word} {behind : List Token} → Made D a d l l m x w behind → e ≡ c → Made D (limited a) d l c e x w behind
+  make_limited {m = m} p h = record { good = p.good; run = p.run; alike = p.alike; derives = (m, p.derives, h) }
+
+  pub make_when : {A : Type 0} {f : Sighted → Bool} {a : P A} {d l c e : ℕ} {x : A} {w : List Word} {behind : List Token}
+      → NoPlace f → Heads f (seen_in w behind) → Made D a d l c e x w behind → Made D (when f a) d l c e x w behind
+  make_when {f = f} {w = w} {behind = behind} same h p =
+      record { good = p.good; run = p.run; alike = p.alike; derives = (heads_alike f same p.run (seen_in w behind) p.alike h, p.derives) }
+
+  pub make_then_none : {A B : Type 0} {a : P A} {goes : A → Bool} {b : P B} {d l c e : ℕ} {x : A} {w : List Word} {behind : List Token}
+      → Made D a d l c e x w behind → Made D (then_if a goes b) d l c e (x, None) w behind
+  make_then_none p = record { good = p.good; run = p.run; alike = p.alike; derives = p.derives }
+
+  pub make_then_some : {A B : Type 0} {a : P A} {goes : A → Bool} {b : P B} {d l c m e : ℕ} {x : A} {y : B} {v w : List Word} {behind : List Token}
+      → goes x ≡ true → Made D a d l c m x v (map token_of w ++ behind) → Made D b d l m e y w behind → Made D (then_if a goes b) d l c e (x, Some y) (v ++ w) behind
+  make_then_some is p q =
+      let made = make_both D p q in
+      let (u, v, i, cut, first, second) = made.derives in
+      record { good = made.good; run = made.run; alike = made.alike; derives = (u, v, i, cut, first, is, second) }
+
+  -- a text of the symbol's production is one of the symbol
+  abbrev pub Rises : Symbol → Type 0
+  Rises s = (d l c e : ℕ) (x : Sort s) (words : List Word) (behind : List Token) → Made D (rule false s) d l c e x words behind → Made D (symbol s) d l c e x words behind
+
+module _ (D : (s : Symbol) → ℕ → ℕ → ℕ → ℕ → List Sighted → Sort s → Type 0) (B : (s : Symbol) → ℕ → ℕ → ℕ → ℕ → Sort s → Type 0) where
+  -- what is written for each value that the part builds spells it
+  abbrev pub Again : {A : Type 0} → P A → (A → W) → Type 0
+  Again {A} a w = (d l c e : ℕ) (x : A) → BuiltOf B a d l c e x → (g : Gap) (behind : List Token) → Made D a d l c e x (w x g) behind
+
+  -- the same for what has no gap of its own
+  abbrev pub Laid : {A : Type 0} → P A → (A → List Word) → Type 0
+  Laid {A} a w = (d l c e : ℕ) (x : A) → BuiltOf B a d l c e x → (behind : List Token) → Made D a d l c e x (w x) behind
+
+  -- ---- lists with commas
+
+  module _ {A : Type 0} (a : P A) (w : A → W) (again : Again a w) where
+    others_made : Laid (many (behind_mark (tok k.Comma) a)) (λ xs. others (map w xs))
+    unfolding same_kind
+    others_made d l c e [] h behind = make_nil D h
+    others_made d l c e (y ∷ xs) (m, ((comma, x), (m2, p, q), h), r) behind =
+        make_cons D (make_gives D h (reword D (ap (λ y. plain k.Comma gap.Space ∷ w y gap.Space) h)
+        (make_both D (make_tok D B k.Comma gap.Space _ d l c m2 comma p refl refl) (again d l m2 m x q gap.Space _))))
+        (others_made d l m e xs r behind)
+
+    pub some_made : Laid (some a) (λ xs. listed (map w xs))
+    some_made d l c e ys ((x, xs), (m, p, q), h) behind =
+        make_gives D h (reword D (ap (λ ys. listed (map w ys)) h) (make_both D (again d l c m x p gap.Space _) (others_made d l m e xs q behind)))
+
+    pub any_made : Laid (any a) (λ xs. listed (map w xs))
+    any_made d l c e ys (None, h, same) behind = make_gives D same (reword D (ap (λ ys. listed (map w ys)) same) (make_none D h))
+    any_made d l c e ys (Some zs, p, same) behind = make_gives D same (reword D (ap (λ ys. listed (map w ys)) same) (make_some D (some_made d l c e zs p behind)))
+
+  -- ---- brackets
+
+  module _ {A : Type 0} (a : P A) (w : A → List Word) (again : Laid a w) where
+    pub parens_made : Laid (parens_of a) (λ x. plain k.LeftParen gap.Space ∷ (w x ++ plain k.RightParen gap.Space ∷ []))
+    unfolding same_kind
+    parens_made zero l c e y (x, p, h) behind = elim p [ ]
+    parens_made (suc d) l c e y ((open', (x, close)), (m, p, (m2, q, r)), h) behind =
+        make_gives D h (reword D (ap (λ x. plain k.LeftParen gap.Space ∷ (w x ++ plain k.RightParen gap.Space ∷ [])) h) (make_nest D
+        (make_both D (make_tok D B k.LeftParen gap.Space _ d l c m open' p refl refl)
+        (make_both D (again d l m m2 x q _) (make_tok D B k.RightParen gap.Space behind d l m2 e close r refl refl)))))
+
+    pub braces_made : Laid (braces_of a) (λ x. in_braces (w x))
+    unfolding same_kind
+    braces_made zero l c e y (x, p, h) behind = elim p [ ]
+    braces_made (suc d) l c e y ((open', (x, close)), (m, p, (m2, q, r)), h) behind =
+        make_gives D h (reword D (ap (λ x. in_braces (w x)) h) (make_nest D
+        (make_both D (make_tok D B k.LeftBrace gap.Space _ d l c m open' p refl refl)
+        (make_both D (again d l m m2 x q _) (make_tok D B k.RightBrace gap.Line behind d l m2 e close r refl refl)))))
+
+  -- a part that may be absent
+  pub maybe_made : {A : Type 0} (a : P A) (w : A → List Word) → Laid a w → Laid (maybe a) (perhaps w)
+  maybe_made a w again d l c e None h behind = make_none D h
+  maybe_made a w again d l c e (Some x) p behind = make_some D (again d l c e x p behind)
+
+  -- ---- what stands in no other expression or type
+
+  pub whole_expr_again : PartAgain D B (symbol Expr) → PartAgain D B whole_expr
+  whole_expr_again within d l c e x (m, p, h) g behind =
+      let made = within d l l m x p g behind in spelt D B refl made.headed (make_limited D made.made h)
+
+  pub whole_type_again : TypeAgain D B (symbol Type') → Again whole_type type_words
+  whole_type_again within d l c e x (m, p, h) g behind = make_limited D (within d l l m x p g behind) h

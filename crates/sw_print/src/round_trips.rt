@@ -1,0 +1,80 @@
+//! Sources through lexer, parser and printer, and what is printed through lexer and parser again: no contract says that
+//! memory is there, nor that the definitions say what was meant.
+
+mod rows;
+
+use crate::print;
+use rows::{ROWS, Row};
+use std::alloc::Global;
+use std::test::Fail;
+use sw_lex::lex;
+use sw_parse_decl::parse;
+use sw_rules::FrontError;
+use sw_syntax::lexed_integers_fit;
+use sw_tree::Tree;
+
+/// The tree of a source.
+fn tree_of(alloc: Global, source: &[u8]) -> Result<Tree, FrontError> {
+    let tokens = lex(alloc, source)?;
+    lexed_integers_fit();
+    parse(alloc, tokens.as_slice())
+}
+
+/// What derived `Debug` writes of a tree, without its places.
+fn shown(alloc: Global, tree: &Tree) -> Result<Vec<u8>, Fail> {
+    let text = format!(in alloc; "{tree:?}")?;
+    let bytes = text.as_bytes();
+    let mut kept = Vec::new(alloc);
+    let mut is_place = false;
+    for at in 0..bytes.len() {
+        if bytes[at..].starts_with(b"Span {") {
+            is_place = true;
+        }
+        if !is_place {
+            kept.push(bytes[at])?;
+        }
+        if bytes[at] == b'}' {
+            is_place = false;
+        }
+    }
+    Ok(kept)
+}
+
+/// Tells whether the text of the source's tree is the one that is wanted, and whether the text has that tree
+/// again, and is printed of it.
+fn comes_back(alloc: Global, row: &Row) -> Result<bool, Fail> {
+    let Ok(tree) = tree_of(alloc, row.source.as_bytes()) else {
+        return Ok(false);
+    };
+    let text = print(alloc, &tree)?;
+    if text.as_bytes() != row.text.as_bytes() {
+        return Ok(false);
+    }
+    let Ok(again) = tree_of(alloc, text.as_bytes()) else {
+        return Ok(false);
+    };
+    let same = print(alloc, &again)?;
+    let first = shown(alloc, &tree)?;
+    let second = shown(alloc, &again)?;
+    Ok(same.as_bytes() == row.text.as_bytes() && first.as_slice() == second.as_slice())
+}
+
+/// How many rows come back, and the source of the first that does not.
+fn tried(alloc: Global) -> Result<(u64, Option<&'static str>), Fail> {
+    let mut right = 0;
+    for row in &ROWS {
+        if !comes_back(alloc, row)? {
+            return Ok((right, Some(row.source)));
+        }
+        right += 1;
+    }
+    Ok((right, None))
+}
+
+#[test]
+fn each_tree_is_printed_and_read_again(rt: HostRuntime) -> Result<(), Fail> {
+    let (right, wrong) = tried(rt.alloc())?;
+    assert_eq!(rt; wrong, None);
+    assert_eq!(rt; right, 20);
+    Ok(())
+}
