@@ -1,19 +1,17 @@
 #!/usr/bin/env python3
 """Measures how long `swda run` takes to read long sources that are not served, each kind at three sizes.
 
-usage: bench/parses.py [--dense] [PROGRAM]      (default: crates/swda/out/swda of this checkout)
+usage: bench/parses.py [PROGRAM]      (default: crates/swda/out/swda of this checkout)
 
-These are sources of ordinary spelling. funcs: small funcs, one on each line. array: one array literal, of the integers
-from 0 on. deep: lines with 63 brackets within the braces of a func, and a name and a mark in each. The last size of each is
-the greatest that a source may have. Each source breaks no rule of tokens and of the grammar, and is no thin one, so that it
-is lexed and parsed and then `not built`.
+Three are of ordinary spelling. funcs: small funcs, one on each line. array: one array literal, of the integers from 0 on.
+deep: lines with 63 brackets within the braces of a func, and a name and a mark in each. Two have almost a token in each
+byte. dense array: one array literal of 7s. dense deep: lines with 63 brackets round a 1. The last size of each is the
+greatest that a source may have. Each source breaks no rule of tokens and of the grammar, and is no thin one, so that it is
+lexed and parsed and then `not built`.
 
 It ends with status 1 where the answer is another one, where twice the bytes take GROWTH times the time or more, or where a
 run takes MOST_MEMORY times the bytes of its source or more; with status 2 where the program cannot be run. The gate does
-not call it.
-
-With --dense a second table shows sources that nobody writes, of almost one token in each byte: dense array, of 7s, and
-dense deep, of 63 brackets round a 1. What it shows decides nothing, but for a wrong answer.
+not call it. Today it does end with status 1: the two dense sources take too much memory (see docs/PLANS.md).
 """
 
 import os
@@ -67,12 +65,13 @@ def dense_deep(size):
     return nested(b"  let x = " + b"(" * 63 + b"1" + b")" * 63 + b"\n", size)
 
 
-ORDINARY = [("funcs", funcs), ("array", array), ("deep", deep)]
-DENSE = [("dense array", dense_array), ("dense deep", dense_deep)]
+KINDS = [
+    ("funcs", funcs), ("array", array), ("deep", deep), ("dense array", dense_array), ("dense deep", dense_deep),
+]
 
 
-def measure(program, folder, name, make, decides):
-    """Prints a table of one kind, and gives what is wrong: no more than the answers where it does not decide."""
+def measure(program, folder, name, make):
+    """Prints a table of one kind, and gives what is wrong."""
     faults = []
     made = {size: make(size) for size in SIZES}
     cpus, memories = {size: [] for size in SIZES}, {size: [] for size in SIZES}
@@ -92,8 +91,6 @@ def measure(program, folder, name, make, decides):
         shown = f"{growth:.2f}" if before else ""
         print(f"{size:>11} {cpu * 1000:>7.1f} ms {memory:>7.1f} MB {shown:>8}")
         before = cpu
-        if not decides:
-            continue
         if growth >= GROWTH:
             faults.append(f"{size} {name}: {growth:.2f} times the time of {size // 2}, not below {GROWTH}")
         if memory * 1e6 >= MOST_MEMORY * size and size == SIZES[-1]:
@@ -101,16 +98,12 @@ def measure(program, folder, name, make, decides):
     return faults
 
 
-def measured(program, folder, dense):
+def measured(program, folder):
     faults = []
-    for name, make in ORDINARY:
-        faults += measure(program, folder, name, make, True)
-    for name, make in DENSE if dense else []:
-        faults += measure(program, folder, name, make, False)
+    for name, make in KINDS:
+        faults += measure(program, folder, name, make)
     return faults
 
 
 if __name__ == "__main__":
-    words = [word for word in sys.argv[1:] if word != "--dense"]
-    dense = len(words) < len(sys.argv) - 1
-    sys.exit(script(words, __doc__, "parses", lambda program, folder: measured(program, folder, dense)))
+    sys.exit(script(sys.argv[1:], __doc__, "parses", measured))
