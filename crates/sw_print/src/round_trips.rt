@@ -59,22 +59,19 @@ fn comes_back(alloc: Global, row: &Row) -> Result<bool, Fail> {
     Ok(same.as_bytes() == row.text.as_bytes() && first.as_slice() == second.as_slice())
 }
 
-/// How many rows come back, and the source of the first that does not.
-fn tried(alloc: Global) -> Result<(u64, Option<&'static str>), Fail> {
-    let mut right = 0;
+/// The source of the first row that does not come back.
+fn first_lost(alloc: Global) -> Result<Option<&'static str>, Fail> {
     for row in &ROWS {
         if !comes_back(alloc, row)? {
-            return Ok((right, Some(row.source)));
+            return Ok(Some(row.source));
         }
-        right += 1;
     }
-    Ok((right, None))
+    Ok(None)
 }
 
 #[test]
 fn each_tree_is_printed_and_read_again(rt: HostRuntime) -> Result<(), Fail> {
-    let (right, wrong) = tried(rt.alloc())?;
-    assert_eq!(rt; wrong, None);
-    assert_eq!(rt; right, 20);
+    let lost = first_lost(rt.alloc())?;
+    assert_eq!(rt; lost, None);
     Ok(())
 }
