@@ -69,7 +69,7 @@ abbrev call : P (Face × (List Argument × Face))
 call = g.counts (g.mark is_call) · any (g.sym Arg) · tok k.RightParen
 
 abbrev called : (lenient : Bool) → ℕ → ℕ → ExprTree → Out Sighted (Face × (List Argument × Face)) → Out Sighted ExprTree
-called lenient d l x o = back lenient d l x (o >>= (λ z c2 r2. got (λ base. e.Call base z.0.span z.1.0) c2 r2))
+called lenient d l x o = back lenient d l x (o >>= (λ z c2 r2. got (λ base. e.Call base (z.0.span, z.1.0)) c2 r2))
 
 call_step : (lenient : Bool) → (d l c : ℕ) (x : ExprTree) (ts : List Sighted) → at_first (is k.Dot) ts ≡ false → at_first is_call ts ≡ true → forms lenient d l c x ts ≡ called lenient d l x (read_part lenient (g.nest call) d l c ts)
 call_step lenient d l c x ts h0 h = forms_more lenient d l c x ts (is_call_form ts h) ∙ ap (back lenient d l x) (step lenient Form d l c ts ∙ chosen (at_first (is k.Dot) ts) false _ _ h0 ∙ chosen (at_first is_call ts) true _ _ h)
@@ -89,10 +89,10 @@ pub call_full : (lenient : Bool) → (d l c : ℕ) (x : ExprTree) (ts : List Sig
 call_full lenient d l c x ts h0 h z z' = call_open lenient d l c x ts h0 h z ∙ ap (λ o. called lenient d l x (counted_call lenient (d - 1) l o)) (counted_full lenient is_call (d - 1) l c ts z' h)
 
 call_shape : (lenient : Bool) → (d l : ℕ) (x : ExprTree) (f : Face) (o : Out Sighted (List Argument)) (q : ℕ → List Sighted → Out Sighted Face)
-    → called lenient d l x ((o >>= (λ xs c' r'. q c' r' >>= (λ y c'' r''. got (xs, y) c'' r''))) >>= (λ w c' r'. got (f, w) c' r')) ≡ (o >>= (λ xs c' r'. q c' r' >>= (λ _ c'' r''. forms lenient d l c'' (e.Call x f.span xs) r'')))
+    → called lenient d l x ((o >>= (λ xs c' r'. q c' r' >>= (λ y c'' r''. got (xs, y) c'' r''))) >>= (λ w c' r'. got (f, w) c' r')) ≡ (o >>= (λ xs c' r'. q c' r' >>= (λ _ c'' r''. forms lenient d l c'' (e.Call x (f.span, xs)) r'')))
 call_shape lenient d l x f (got xs c r) q = go (q c r)
   where
-    go : (o : Out Sighted Face) → called lenient d l x ((o >>= (λ y c'' r''. got (xs, y) c'' r'')) >>= (λ w c' r'. got (f, w) c' r')) ≡ (o >>= (λ _ c'' r''. forms lenient d l c'' (e.Call x f.span xs) r''))
+    go : (o : Out Sighted Face) → called lenient d l x ((o >>= (λ y c'' r''. got (xs, y) c'' r'')) >>= (λ w c' r'. got (f, w) c' r')) ≡ (o >>= (λ _ c'' r''. forms lenient d l c'' (e.Call x (f.span, xs)) r''))
     go (got y c r) = refl
     go (bad why r) = refl
     go spent = refl
@@ -100,7 +100,7 @@ call_shape lenient d l x f (bad why r) q = refl
 call_shape lenient d l x f spent q = refl
 
 pub call_more : (lenient : Bool) → (d l c : ℕ) (x : ExprTree) (ts : List Sighted) (f : Face) (r : List Sighted) → at_first (is k.Dot) ts ≡ false → at_first is_call ts ≡ true → (d ≡ 0 → ⊥) → (c ≡ 0 → ⊥) → Takes is_call ts f r
-    → forms lenient d l c x ts ≡ (arg_list lenient (d - 1) l (c - 1) r >>= (λ xs c' r'. one face_of (is k.RightParen) c' r' >>= (λ _ c'' r''. forms lenient d l c'' (e.Call x f.span xs) r'')))
+    → forms lenient d l c x ts ≡ (arg_list lenient (d - 1) l (c - 1) r >>= (λ xs c' r'. one face_of (is k.RightParen) c' r' >>= (λ _ c'' r''. forms lenient d l c'' (e.Call x (f.span, xs)) r'')))
 call_more lenient d l c x ts f r h0 h z z' takes = call_open lenient d l c x ts h0 h z
     ∙ ap (λ o. called lenient d l x (counted_call lenient (d - 1) l o)) (counted lenient is_call (d - 1) l c ts z' ∙ takes (c - 1))
     ∙ call_shape lenient d l x f (arg_list lenient (d - 1) l (c - 1) r) (λ c r. one face_of (is k.RightParen) c r)
@@ -111,7 +111,7 @@ abbrev index : P (Face × (ExprTree × Face))
 index = g.counts (g.mark is_index) · g.sym Expr · tok k.RightBracket
 
 abbrev indexed : (lenient : Bool) → ℕ → ℕ → ExprTree → Out Sighted (Face × (ExprTree × Face)) → Out Sighted ExprTree
-indexed lenient d l x o = back lenient d l x (o >>= (λ z c2 r2. got (λ base. e.Index base z.0.span z.1.0) c2 r2))
+indexed lenient d l x o = back lenient d l x (o >>= (λ z c2 r2. got (λ base. e.Index base (z.0.span, z.1.0)) c2 r2))
 
 index_step : (lenient : Bool) → (d l c : ℕ) (x : ExprTree) (ts : List Sighted) → at_first (is k.Dot) ts ≡ false → at_first is_call ts ≡ false → at_first is_index ts ≡ true → forms lenient d l c x ts ≡ indexed lenient d l x (read_part lenient (g.nest index) d l c ts)
 index_step lenient d l c x ts h0 h1 h = forms_more lenient d l c x ts (is_index_form ts h)
@@ -131,10 +131,10 @@ pub index_full : (lenient : Bool) → (d l c : ℕ) (x : ExprTree) (ts : List Si
 index_full lenient d l c x ts h0 h1 h z z' = index_open lenient d l c x ts h0 h1 h z ∙ ap (λ o. indexed lenient d l x (counted_index lenient (d - 1) l o)) (counted_full lenient is_index (d - 1) l c ts z' h)
 
 index_shape : (lenient : Bool) → (d l : ℕ) (x : ExprTree) (f : Face) (o : Out Sighted ExprTree) (q : ℕ → List Sighted → Out Sighted Face)
-    → indexed lenient d l x ((o >>= (λ y c' r'. q c' r' >>= (λ z c'' r''. got (y, z) c'' r''))) >>= (λ w c' r'. got (f, w) c' r')) ≡ (o >>= (λ y c' r'. q c' r' >>= (λ _ c'' r''. forms lenient d l c'' (e.Index x f.span y) r'')))
+    → indexed lenient d l x ((o >>= (λ y c' r'. q c' r' >>= (λ z c'' r''. got (y, z) c'' r''))) >>= (λ w c' r'. got (f, w) c' r')) ≡ (o >>= (λ y c' r'. q c' r' >>= (λ _ c'' r''. forms lenient d l c'' (e.Index x (f.span, y)) r'')))
 index_shape lenient d l x f (got y c r) q = go (q c r)
   where
-    go : (o : Out Sighted Face) → indexed lenient d l x ((o >>= (λ z c'' r''. got (y, z) c'' r'')) >>= (λ w c' r'. got (f, w) c' r')) ≡ (o >>= (λ _ c'' r''. forms lenient d l c'' (e.Index x f.span y) r''))
+    go : (o : Out Sighted Face) → indexed lenient d l x ((o >>= (λ z c'' r''. got (y, z) c'' r'')) >>= (λ w c' r'. got (f, w) c' r')) ≡ (o >>= (λ _ c'' r''. forms lenient d l c'' (e.Index x (f.span, y)) r''))
     go (got z c r) = refl
     go (bad why r) = refl
     go spent = refl
@@ -142,7 +142,7 @@ index_shape lenient d l x f (bad why r) q = refl
 index_shape lenient d l x f spent q = refl
 
 pub index_more : (lenient : Bool) → (d l c : ℕ) (x : ExprTree) (ts : List Sighted) (f : Face) (r : List Sighted) → at_first (is k.Dot) ts ≡ false → at_first is_call ts ≡ false → at_first is_index ts ≡ true → (d ≡ 0 → ⊥) → (c ≡ 0 → ⊥) → Takes is_index ts f r
-    → forms lenient d l c x ts ≡ (read lenient Expr (d - 1) l (c - 1) r >>= (λ y c' r'. one face_of (is k.RightBracket) c' r' >>= (λ _ c'' r''. forms lenient d l c'' (e.Index x f.span y) r'')))
+    → forms lenient d l c x ts ≡ (read lenient Expr (d - 1) l (c - 1) r >>= (λ y c' r'. one face_of (is k.RightBracket) c' r' >>= (λ _ c'' r''. forms lenient d l c'' (e.Index x (f.span, y)) r'')))
 index_more lenient d l c x ts f r h0 h1 h z z' takes = index_open lenient d l c x ts h0 h1 h z
     ∙ ap (λ o. indexed lenient d l x (counted_index lenient (d - 1) l o)) (counted lenient is_index (d - 1) l c ts z' ∙ takes (c - 1))
     ∙ index_shape lenient d l x f (read lenient Expr (d - 1) l (c - 1) r) (λ c r. one face_of (is k.RightBracket) c r)

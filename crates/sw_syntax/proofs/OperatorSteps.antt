@@ -82,15 +82,15 @@ branches_full lenient d l c x ts h z = branches_some lenient d l c x ts h
 
 both_branches : (x : ExprTree) (f : Face) (o : Out Sighted ExprTree) (q : ℕ → List Sighted → Out Sighted Face) (s : ℕ → List Sighted → Out Sighted ExprTree)
     → (((((o >>= (λ y c r. ((q c r >>= (λ f c' r'. s c' r' >>= (λ z c'' r''. got (f, z) c'' r''))) >>= (λ (z : Face × ExprTree) c'' r''. got z.1 c'' r'')) >>= (λ z c' r'. got (y, z) c' r'))) >>= (λ y c2 r2. got (f, y) c2 r2)) >>= (λ (y : Face × (ExprTree × ExprTree)) c2 r2. got y.1 c2 r2)) >>= (λ y c2 r2. got (Some y) c2 r2)) >>= (λ y c2 r2. got (ternary_of x y) c2 r2))
-    ≡ (o >>= (λ y c r. q c r >>= (λ _ c' r'. s c' r' >>= (λ z c'' r''. got (e.Ternary x y z) c'' r''))))
+    ≡ (o >>= (λ y c r. q c r >>= (λ _ c' r'. s c' r' >>= (λ z c'' r''. got (e.Ternary x (y, z)) c'' r''))))
 both_branches x f (got y c r) q s = go (q c r)
   where
-    last : (o : Out Sighted ExprTree) (h : Face) → ((((((o >>= (λ z c'' r''. got (h, z) c'' r'')) >>= (λ (z : Face × ExprTree) c'' r''. got z.1 c'' r'')) >>= (λ z c' r'. got (y, z) c' r')) >>= (λ y c2 r2. got (f, y) c2 r2)) >>= (λ (y : Face × (ExprTree × ExprTree)) c2 r2. got y.1 c2 r2)) >>= (λ y c2 r2. got (Some y) c2 r2)) >>= (λ y c2 r2. got (ternary_of x y) c2 r2) ≡ (o >>= (λ z c'' r''. got (e.Ternary x y z) c'' r''))
+    last : (o : Out Sighted ExprTree) (h : Face) → ((((((o >>= (λ z c'' r''. got (h, z) c'' r'')) >>= (λ (z : Face × ExprTree) c'' r''. got z.1 c'' r'')) >>= (λ z c' r'. got (y, z) c' r')) >>= (λ y c2 r2. got (f, y) c2 r2)) >>= (λ (y : Face × (ExprTree × ExprTree)) c2 r2. got y.1 c2 r2)) >>= (λ y c2 r2. got (Some y) c2 r2)) >>= (λ y c2 r2. got (ternary_of x y) c2 r2) ≡ (o >>= (λ z c'' r''. got (e.Ternary x (y, z)) c'' r''))
     last (got z c r) h = refl
     last (bad why r) h = refl
     last spent h = refl
 
-    go : (o : Out Sighted Face) → ((((((o >>= (λ f c' r'. s c' r' >>= (λ z c'' r''. got (f, z) c'' r''))) >>= (λ (z : Face × ExprTree) c'' r''. got z.1 c'' r'')) >>= (λ z c' r'. got (y, z) c' r')) >>= (λ y c2 r2. got (f, y) c2 r2)) >>= (λ (y : Face × (ExprTree × ExprTree)) c2 r2. got y.1 c2 r2)) >>= (λ y c2 r2. got (Some y) c2 r2)) >>= (λ y c2 r2. got (ternary_of x y) c2 r2) ≡ (o >>= (λ _ c' r'. s c' r' >>= (λ z c'' r''. got (e.Ternary x y z) c'' r'')))
+    go : (o : Out Sighted Face) → ((((((o >>= (λ f c' r'. s c' r' >>= (λ z c'' r''. got (f, z) c'' r''))) >>= (λ (z : Face × ExprTree) c'' r''. got z.1 c'' r'')) >>= (λ z c' r'. got (y, z) c' r')) >>= (λ y c2 r2. got (f, y) c2 r2)) >>= (λ (y : Face × (ExprTree × ExprTree)) c2 r2. got y.1 c2 r2)) >>= (λ y c2 r2. got (Some y) c2 r2)) >>= (λ y c2 r2. got (ternary_of x y) c2 r2) ≡ (o >>= (λ _ c' r'. s c' r' >>= (λ z c'' r''. got (e.Ternary x (y, z)) c'' r'')))
     go (got h c r) = last (s c r) h
     go (bad why r) = refl
     go spent = refl
@@ -98,7 +98,7 @@ both_branches x f (bad why r) q s = refl
 both_branches x f spent q s = refl
 
 pub branches_more : (lenient : Bool) → (d l c : ℕ) (x : ExprTree) (ts : List Sighted) (f : Face) (r : List Sighted) → at_first is_ternary ts ≡ true → (c ≡ 0 → ⊥) → Takes is_ternary ts f r
-    → branches lenient d l c x ts ≡ (read lenient Expr d l (c - 1) r >>= (λ y c1 r1. one face_of (is k.Colon) c1 r1 >>= (λ _ c2 r2. read lenient Expr d l c2 r2 >>= (λ z c3 r3. got (e.Ternary x y z) c3 r3))))
+    → branches lenient d l c x ts ≡ (read lenient Expr d l (c - 1) r >>= (λ y c1 r1. one face_of (is k.Colon) c1 r1 >>= (λ _ c2 r2. read lenient Expr d l c2 r2 >>= (λ z c3 r3. got (e.Ternary x (y, z)) c3 r3))))
 branches_more lenient d l c x ts f r h z takes = branches_some lenient d l c x ts h
     ∙ ap (λ o. (((o >>= (λ f c1 r1. read_part lenient two_branches d l c1 r1 >>= (λ y c2 r2. got (f, y) c2 r2))) >>= (λ (y : Face × (ExprTree × ExprTree)) c2 r2. got y.1 c2 r2)) >>= (λ y c2 r2. got (Some y) c2 r2)) >>= (λ y c2 r2. got (ternary_of x y) c2 r2)) (counted lenient is_ternary d l c ts z ∙ takes (c - 1))
     ∙ both_branches x f (read lenient Expr d l (c - 1) r) (λ c r. one face_of (is k.Colon) c r) (λ c r. read lenient Expr d l c r)
@@ -114,7 +114,7 @@ decided_operand : (lenient : Bool) (n m : ℕ) → IsOk lenient (operand n (righ
 decided_operand lenient n m = ((tt, refl), decided_right lenient m, λ t e h. cc)
 
 abbrev binary : Face → ExprTree → ExprTree → ExprTree
-binary f left right = e.Binary (binary_of f.kind) f.span left right
+binary f left right = e.Binary (binary_of f.kind) f.span (left, right)
 
 pub chain_end : (lenient : Bool) → (n d l c : ℕ) (left : ExprTree) (ts : List Sighted) → at_first (is_binary n) ts ≡ false → chain lenient n d l c left ts ≡ got left c ts
 unfolding chain
@@ -133,7 +133,7 @@ chain_full lenient n d l c left ts h z = chain_some lenient n d l c left ts h
     ∙ ap (λ o. (o >>= (λ f c1 r1. read_part lenient (right lenient (suc n)) d l c1 r1 >>= (λ y c2 r2. got (f, y) c2 r2))) >>= chain_back lenient n d l left) (counted_full lenient (is_binary n) d l c ts z h)
 
 pub chain_more : (lenient : Bool) → (n d l c : ℕ) (left : ExprTree) (ts : List Sighted) (f : Face) (r : List Sighted) → at_first (is_binary n) ts ≡ true → (c ≡ 0 → ⊥) → Takes (is_binary n) ts f r
-    → chain lenient n d l c left ts ≡ (read_part lenient (right lenient (suc n)) d l (c - 1) r >>= (λ y c' r'. chain lenient n d l c' (e.Binary (binary_of f.kind) f.span left y) r'))
+    → chain lenient n d l c left ts ≡ (read_part lenient (right lenient (suc n)) d l (c - 1) r >>= (λ y c' r'. chain lenient n d l c' (e.Binary (binary_of f.kind) f.span (left, y)) r'))
 unfolding chain
 chain_more lenient n d l c left ts f r h z takes = chain_some lenient n d l c left ts h
     ∙ ap (λ o. (o >>= (λ f c1 r1. read_part lenient (right lenient (suc n)) d l c1 r1 >>= (λ y c2 r2. got (f, y) c2 r2))) >>= chain_back lenient n d l left) (counted lenient (is_binary n) d l c ts z ∙ takes (c - 1))
@@ -153,7 +153,7 @@ once_full lenient n m d l c x ts h z = once_some lenient n m d l c x ts h
     ∙ ap (λ o. ((o >>= (λ f c1 r1. read_part lenient (right lenient m) d l c1 r1 >>= (λ y c2 r2. got (f, y) c2 r2))) >>= (λ y c2 r2. got (Some y) c2 r2)) >>= (λ y c' r. got (to_right x y) c' r)) (counted_full lenient (is_binary n) d l c ts z h)
 
 pub once_more : (lenient : Bool) → (n m d l c : ℕ) (x : ExprTree) (ts : List Sighted) (f : Face) (r : List Sighted) → at_first (is_binary n) ts ≡ true → (c ≡ 0 → ⊥) → Takes (is_binary n) ts f r
-    → once lenient n m d l c x ts ≡ (read_part lenient (right lenient m) d l (c - 1) r >>= (λ y c' r'. got (e.Binary (binary_of f.kind) f.span x y) c' r'))
+    → once lenient n m d l c x ts ≡ (read_part lenient (right lenient m) d l (c - 1) r >>= (λ y c' r'. got (e.Binary (binary_of f.kind) f.span (x, y)) c' r'))
 once_more lenient n m d l c x ts f r h z takes = once_some lenient n m d l c x ts h
     ∙ ap (λ o. ((o >>= (λ f c1 r1. read_part lenient (right lenient m) d l c1 r1 >>= (λ y c2 r2. got (f, y) c2 r2))) >>= (λ y c2 r2. got (Some y) c2 r2)) >>= (λ y c' r. got (to_right x y) c' r)) (counted lenient (is_binary n) d l c ts z ∙ takes (c - 1))
     ∙ ap (λ o. o >>= (λ y c' r. got (to_right x y) c' r)) (bind_assoc (read_part lenient (right lenient m) d l (c - 1) r) (λ y c2 r2. got (f, y) c2 r2) (λ y c2 r2. got (Some y) c2 r2))
@@ -209,9 +209,9 @@ bin_prefix lenient (suc (suc (suc (suc (suc (suc n)))))) d l c ts h = step lenie
 
 -- the chain one mark on, with the strength as the code has it
 pub chain_plus : (lenient : Bool) (n d l c : ℕ) (left : ExprTree) (ts : List Sighted) (f : Face) (r : List Sighted) → at_first (is_binary n) ts ≡ true → (c ≡ 0 → ⊥) → Takes (is_binary n) ts f r
-    → chain lenient n d l c left ts ≡ (read_part lenient (right lenient (n + 1)) d l (c - 1) r >>= (λ y c' r'. chain lenient n d l c' (e.Binary (binary_of f.kind) f.span left y) r'))
+    → chain lenient n d l c left ts ≡ (read_part lenient (right lenient (n + 1)) d l (c - 1) r >>= (λ y c' r'. chain lenient n d l c' (e.Binary (binary_of f.kind) f.span (left, y)) r'))
 chain_plus lenient n d l c left ts f r h z takes =
-    subst (λ m. chain lenient n d l c left ts ≡ (read_part lenient (right lenient m) d l (c - 1) r >>= (λ y c' r'. chain lenient n d l c' (e.Binary (binary_of f.kind) f.span left y) r'))) (next_strength n) (chain_more lenient n d l c left ts f r h z takes)
+    subst (λ m. chain lenient n d l c left ts ≡ (read_part lenient (right lenient m) d l (c - 1) r >>= (λ y c' r'. chain lenient n d l c' (e.Binary (binary_of f.kind) f.span (left, y)) r'))) (next_strength n) (chain_more lenient n d l c left ts f r h z takes)
 
 -- what stands right of a mark: an operand, unless the grammar is lenient and none begins there
 pub right_operand : (lenient : Bool) (n d l c : ℕ) (ts : List Sighted) → (lenient && not (at_first starts_operand ts)) ≡ false → read_part lenient (right lenient n) d l c ts ≡ read lenient (Bin n) d l c ts

@@ -325,8 +325,8 @@ rule lenient Prefix = gives (λ x. e.Prefix (prefix_of x.0.kind) x.0.span x.1) (
 rule lenient Post = gives (λ x. with_forms x.0 x.1) (sym Prim · many (sym Form))
 rule lenient Form =
     gives (λ member base. e.Member base member) (behind (counts (tok k.Dot)) name)
-    ∣ gives (λ x base. e.Call base x.0.span x.1.0) (nest (counts (mark is_call) · any (sym Arg) · tok k.RightParen))
-    ∣ gives (λ x base. e.Index base x.0.span x.1.0) (nest (counts (mark is_index) · sym Expr · tok k.RightBracket))
+    ∣ gives (λ x base. e.Call base (x.0.span, x.1.0)) (nest (counts (mark is_call) · any (sym Arg) · tok k.RightParen))
+    ∣ gives (λ x base. e.Index base (x.0.span, x.1.0)) (nest (counts (mark is_index) · sym Expr · tok k.RightBracket))
     ∣ gives (λ f base. e.Force base f.span) (counts (mark is_force))
 -- arg = (name :)? expr
 rule lenient Arg =

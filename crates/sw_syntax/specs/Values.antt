@@ -98,15 +98,15 @@ integer_of f = literal.Integer (pos (number 0 f.text))
 -- operands behind marks, taken to the left
 abbrev pub to_left : Expr → List (Face × Expr) → Expr
 to_left left [] = left
-to_left left (x ∷ xs) = to_left (e.Binary (binary_of x.0.kind) x.0.span left x.1) xs
+to_left left (x ∷ xs) = to_left (e.Binary (binary_of x.0.kind) x.0.span (left, x.1)) xs
 
 abbrev pub to_right : Expr → Option (Face × Expr) → Expr
 to_right left None = left
-to_right left (Some x) = e.Binary (binary_of x.0.kind) x.0.span left x.1
+to_right left (Some x) = e.Binary (binary_of x.0.kind) x.0.span (left, x.1)
 
 abbrev pub ternary_of : Expr → Option (Expr × Expr) → Expr
 ternary_of condition None = condition
-ternary_of condition (Some x) = e.Ternary condition x.0 x.1
+ternary_of condition (Some x) = e.Ternary condition x
 
 -- what each form makes of what stands before it
 abbrev pub with_forms : Expr → List (Expr → Expr) → Expr
@@ -128,7 +128,7 @@ abbrev pub is_place_layer : {A B C D : Type 0} → Expr-F A B C D → Bool
 is_place_layer (Expr-F.Name name) = true
 is_place_layer (Expr-F.Implicit at name) = true
 is_place_layer (Expr-F.Member base name) = true
-is_place_layer (Expr-F.Index base at index) = true
+is_place_layer (Expr-F.Index base index) = true
 is_place_layer layer = false
 
 abbrev pub is_place : Expr → Bool
