@@ -21,3 +21,4 @@ mod ReadingLemmas
 mod TellLemmas
 mod EndLemmas
 mod WholeLemmas
+mod KeptLemmas

@@ -13,3 +13,4 @@ pub mod Telling
 pub mod Finding
 pub mod Characters
 pub mod Scanning
+pub mod Kept

@@ -5,6 +5,7 @@ use Rattle.sw_lex.specs.declared.bytes.Class.TheVariants as class
 use Rattle.sw_lex.specs.declared.token.TokenKind.{TokenKind}
 use Rattle.sw_lex.specs.declared.token.TokenKind.TheVariants as k
 use Rattle.sw_lex.specs.declared.token.Token.{Token as SourceToken}
+use Rattle.sw_lex.specs.declared.tokens.TokenRef.{TokenRef}
 use Rattle.sw_lex.specs.declared.forms.Begin.{Begin}
 use Rattle.sw_lex.specs.declared.forms.Begin.TheVariants.{End, Gap, Token}
 use Rattle.sw_lex.specs.declared.telling.Here.{Here}
@@ -100,3 +101,16 @@ pub record CutsInto (source : Text) (tokens : List SourceToken) : Type 0 where
   pub whole : CutOf source
   pub to_end : whole.stop ≡ End
   pub same : AreTokens (end_place source) start whole.good source whole.items tokens
+
+-- ---- a token of a list
+
+-- the token, whose text is lent
+abbrev pub token_of : TokenRef → SourceToken
+token_of token = record {
+  text = token.text.now;
+  span = token.span;
+  kind = token.kind;
+  first_on_line = token.first_on_line;
+  touches = token.touches;
+  after_space = token.after_space;
+}

@@ -7,9 +7,8 @@ ghost use Rattle.sw_lex.specs.Lexing.{IsCauseOf, IsOnlyCut};
 
 use crate::broken::first_broken;
 use crate::scan::Scan;
-use crate::token::Token;
+use crate::tokens::Tokens;
 use std::alloc::Global;
-use sw_base::Items;
 use sw_rules::{FrontError, Refusal};
 
 /// The tokens of a source, ended by one for the end of the source.
@@ -17,7 +16,7 @@ use sw_rules::{FrontError, Refusal};
 /// It is refused exactly where it breaks one of the rules `L1` to `L5`, by the first that it breaks:
 /// the least by place, and of one place the first by order. The only other error is want of memory.
 /// It reads the source once, from its start on, and the time is linear in the bytes.
-pub fn lex(alloc: Global, source: &[u8]) -> Result<Items<Token>, FrontError>
+pub fn lex(alloc: Global, source: &[u8]) -> Result<Tokens, FrontError>
     ensures tokens { IfOk result (λ tokens. CutsInto source.now tokens) }
     ensures only { IfOk result (λ tokens. IsOnlyCut source.now tokens) }
     ensures ended { IfOk result (λ tokens. EndsOnce tokens) }

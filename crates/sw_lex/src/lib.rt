@@ -19,9 +19,11 @@ mod strings;
 mod tables;
 mod telling;
 mod token;
+mod tokens;
 
 pub use lexer::lex;
 pub use token::{Token, TokenKind};
+pub use tokens::{TokenRef, Tokens};
 
 #[cfg(test)]
 mod tests;

@@ -14,8 +14,9 @@ use crate::limits::MOST_BYTES;
 use crate::places::{ORIGIN, behind, end_place, moved};
 use crate::strings::decoded;
 use crate::token::{Token, TokenKind};
+use crate::tokens::Tokens;
 use std::alloc::Global;
-use sw_base::{Items, NoMemory, Span, Text};
+use sw_base::{NoMemory, Span, Text};
 
 /// What a token takes from what stands before it.
 #[derive(Clone, Copy, Debug, PartialEq, Eq)]
@@ -33,7 +34,7 @@ pub struct Here {
 /// What is told of a source that is not too long.
 #[derive(Debug, Drop)]
 pub struct Told {
-    pub tokens: Items<Token>,
+    pub tokens: Tokens,
     /// What the next token takes from them.
     pub here: Here,
     /// The place of the last byte so far, if there is one.
@@ -83,7 +84,7 @@ fn token_at(place: Span, here: Here, kind: TokenKind, text: Text) -> Token
 /// the place behind is known.
 fn tell(
     alloc: Global,
-    tokens: &mut Items<Token>,
+    tokens: &mut Tokens,
     here: Here,
     next: Span,
     bytes: &[u8],
@@ -122,7 +123,7 @@ impl Told {
         ensures { result ≡ scanning.nothing_told }
     {
         Told {
-            tokens: Items::new(alloc),
+            tokens: Tokens::new(alloc),
             here: Here {
                 place: ORIGIN,
                 last_line: 0,
@@ -172,7 +173,7 @@ impl Told {
     }
 
     /// The tokens, and one for the end of the source, which has so many bytes.
-    pub fn ended(self, alloc: Global, size: usize) -> Result<Items<Token>, NoMemory>
+    pub fn ended(self, alloc: Global, size: usize) -> Result<Tokens, NoMemory>
         requires { 0 < size → self.last.column + 1 < 2 ^ 32 }
         ensures { IfOk result (λ tokens. tokens ≡ self.tokens
             ++ spec.token_at (scanning.end_of size self.last) self.here TokenKind.End [] ∷ []) }

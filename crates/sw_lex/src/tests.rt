@@ -3,11 +3,11 @@
 
 mod rows;
 
-use crate::{Token, lex};
+use crate::{Tokens, lex};
 use rows::ROWS;
 use std::alloc::Global;
 use std::test::Fail;
-use sw_base::{Duplicate, Items, NoMemory, Span, Text};
+use sw_base::{Span, Text};
 use sw_rules::{FrontError, Refusal, Rule};
 
 fn digit(byte: u8) -> u8 {
@@ -56,9 +56,12 @@ fn flag(is_set: bool, letter: char) -> char {
 }
 
 /// Tokens as the rows write them.
-fn written(alloc: Global, tokens: &[Token]) -> Result<Text, Fail> {
+fn written(alloc: Global, tokens: &Tokens) -> Result<Text, Fail> {
     let mut text = Text::from_bytes(alloc, b"")?;
-    for token in tokens {
+    for at in 0..tokens.len() {
+        let Some(token) = tokens.get(at) else {
+            break;
+        };
         if !text.as_bytes().is_empty() {
             text.push_all(b", ")?;
         }
@@ -78,7 +81,7 @@ fn written(alloc: Global, tokens: &[Token]) -> Result<Text, Fail> {
 /// What becomes of a source, as the rows write it.
 fn answer(alloc: Global, source: &[u8]) -> Result<Text, Fail> {
     match lex(alloc, source) {
-        Ok(tokens) => written(alloc, tokens.as_slice()),
+        Ok(tokens) => written(alloc, &tokens),
         Err(FrontError::Refused(Refusal { rule, span })) => {
             let text = format!(in alloc; "refused {rule:?} {}:{}", span.line, span.column)?;
             Ok(Text::from_bytes(alloc, text.as_bytes())?)
@@ -150,15 +153,5 @@ fn a_source_may_have_1048576_bytes(rt: HostRuntime) -> Result<(), Fail> {
     assert!(rt; is_long_answered(alloc, b'#', b' ', most, "refused L2 1:1")?);
     assert!(rt; is_long_answered(alloc, b'"', b' ', most, "refused L3 1:1")?);
     assert!(rt; is_long_answered(alloc, b' ', b'#', most, "refused L5 1:1")?);
-    Ok(())
-}
-
-#[test]
-fn a_token_is_copied(rt: HostRuntime) -> Result<(), Fail> {
-    let tokens = lex(rt.alloc(), b"a \"b\"");
-    match &tokens {
-        Ok(tokens) => assert!(rt; tokens == &tokens.copy()?),
-        Err(_) => assert!(rt; false),
-    }
     Ok(())
 }

@@ -1,6 +1,6 @@
 //! Tokens and their kinds.
 
-use sw_base::{Duplicate, NoMemory, Span, Text};
+use sw_base::{Span, Text};
 
 /// What a token is: a reserved word, a name, a literal or a part of one, a mark, or the end.
 ///
@@ -189,8 +189,6 @@ pub enum TokenKind {
 }
 
 /// A token, with its place and what of the bytes before it the line rules speak of.
-///
-/// The fields stand in the order that leaves no gaps between them: a long source has many tokens.
 #[derive(Debug, PartialEq, Drop)]
 pub struct Token {
     /// What the string piece stands for; of any other token its bytes. The end has none.
@@ -205,25 +203,4 @@ pub struct Token {
     pub touches: bool,
     /// White space stands directly before it. A comment is none.
     pub after_space: bool,
-}
-
-const _: () = prove!(size_of::<Token>() == 32);
-
-impl Duplicate for TokenKind {
-    fn copy(&self) -> Result<TokenKind, NoMemory> {
-        Ok(*self)
-    }
-}
-
-impl Duplicate for Token {
-    fn copy(&self) -> Result<Token, NoMemory> {
-        Ok(Token {
-            kind: self.kind,
-            text: self.text.copy()?,
-            span: self.span,
-            first_on_line: self.first_on_line,
-            touches: self.touches,
-            after_space: self.after_space,
-        })
-    }
 }
