@@ -1,6 +1,6 @@
 //! A list of tokens, each kept in few bytes.
 
-ghost use Rattle.std.specs.Prelude.{◌≡◌, ◌<◌, [], ◌∷◌, ◌++◌, OnOk, OnSome, IfOk, IfSome, length, slice_get, option_map, Some};
+ghost use Rattle.std.specs.Prelude.{◌≡◌, ◌<◌, ◌+◌, ◌^◌, [], ◌∷◌, ◌++◌, OnOk, OnSome, IfOk, IfSome, length, slice_get, option_map, Some};
 ghost use Rattle.sw_lex.specs.Kept.{IsGrown};
 ghost use Rattle.sw_lex.specs.Tokens.{token_of};
 
@@ -82,6 +82,7 @@ impl Tokens {
     pub fn get(&self, at: usize) -> Option<TokenRef<'_>>
         ensures value { option_map token_of result ≡ slice_get self.now at }
         ensures within { OnSome result (at < length self.now) }
+        ensures countable { OnSome result (at + 1 < 2 ^ 64) }
     {
         if at < self.len() {
             Some(self.at(at))
@@ -93,7 +94,8 @@ impl Tokens {
     /// The token at an index that is known to be in the list.
     pub fn at(&self, at: usize) -> TokenRef<'_>
         requires { at < length self.now }
-        ensures { slice_get self.now at ≡ Some (token_of result) }
+        ensures token { slice_get self.now at ≡ Some (token_of result) }
+        ensures countable { at + 1 < 2 ^ 64 }
     {
         let entry = &self.entries.as_slice()[at];
         TokenRef {

@@ -1,6 +1,7 @@
 -- Tokens with a line break before one of them, at a place: what the code sees there.
-use Rattle.std.proofs.Common.{◌≡◌, ◌<◌, ◌≤◌, ℕ, zero, suc, ◌+◌, Bool, true, false, cond, nat_eq, if◌then◌else◌, List, [], ◌∷◌, drop, length, slice_index_or, Option, Some, None, refl, sym, ap, ◌∙◌, subst, arith}
+use Rattle.std.proofs.Common.{◌≡◌, ◌<◌, ◌≤◌, ℕ, zero, suc, ◌+◌, Bool, true, false, cond, nat_eq, if◌then◌else◌, List, [], ◌∷◌, drop, length, slice_get, slice_index_or, Option, Some, None, refl, sym, ap, ◌∙◌, subst, arith}
 use Rattle.std.proofs.lemmas.Bool.{eqb-true, eqb-false}
+use Rattle.std.proofs.lemmas.Option.{slice_get_within, get_or_from_slice_get}
 use Rattle.std.proofs.Math.Seq.{drop-cons}
 use Rattle.sw_lex.specs.declared.token.TokenKind.{TokenKind}
 use Rattle.sw_lex.specs.declared.token.TokenKind.TheVariants as k
@@ -262,6 +263,16 @@ tested x (t ∷ ts) s e = ap (λ s. passes x (whole s)) (some_same s (record { c
 pub untested : (x : Test) (ts : List Sighted) → None ≡ first_sight ts → false ≡ at_first (passes x) ts
 untested x [] e = refl
 untested x (t ∷ ts) e = absurd cc
+
+-- ---- a token that is read from a list, or none
+
+pub read_at : (ts : List Token) (at : ℕ) (t : Token) → Some t ≡ slice_get ts at → (at < length ts) × (t ≡ slice_index_or ts at t)
+read_at ts at t h = (slice_get_within ts at t (sym h), sym (get_or_from_slice_get ts at t t (sym h)))
+
+pub read_none : (ts : List Token) (at : ℕ) → None ≡ slice_get ts at → length ts ≤ at
+read_none [] at h = omega arith
+read_none (t ∷ ts) zero h = absurd cc
+read_none (t ∷ ts) (suc at) h = omega (arith, read_none ts at h)
 
 -- ---- a token that is taken
 

@@ -1,8 +1,7 @@
 -- What a function that reads answers, in the reader's terms; and the tokens that it may be given.
 use Rattle.std.specs.Prelude.{◌≡◌, ◌≤◌, ◌<◌, Bool, true, false, ℕ, List, [], ◌∷◌, drop, Option, Some, None, Result, Ok, Err}
-use Rattle.std.specs.Borrow.{Bor}
 use Rattle.sw_lex.specs.declared.token.TokenKind.TheVariants as k
-use Rattle.sw_lex.specs.declared.token.Token.{Token}
+use Rattle.sw_lex.specs.declared.tokens.TokenRef.{TokenRef}
 use Rattle.sw_lex.specs.Rules.{number}
 use Rattle.sw_grammar.specs.Reading.{Why, full, stuck, Out, got, bad}
 use Rattle.sw_syntax.specs.declared.class.Sight.{Sight}
@@ -10,7 +9,7 @@ use Rattle.sw_syntax.specs.declared.source.Stop.{Stop}
 use Rattle.sw_syntax.specs.declared.source.Stop.TheVariants.{Refused, NoMemory}
 use Rattle.sw_syntax.specs.Tokens.{Sighted, Face}
 use Rattle.sw_syntax.specs.Tests.{is}
-use Rattle.sw_syntax.specs.Sights.{token_face}
+use Rattle.sw_syntax.specs.Sights.{lent_face}
 
 -- what is seen of the first token
 abbrev pub first_sight : List Sighted → Option Sight
@@ -50,8 +49,8 @@ Inside n (Ok found) = found.1 ≤ n
 Inside n (Err stop) = Unit {0}
 
 -- a token that was met, as its face, where so many more may be counted
-abbrev pub met : ℕ → Result (Bor Token × ℕ) Stop → Result (Face × ℕ × ℕ) Stop
-met left (Ok found) = Ok (token_face (found.0.now), found.1, left)
+abbrev pub met : ℕ → Result (TokenRef × ℕ) Stop → Result (Face × ℕ × ℕ) Stop
+met left (Ok found) = Ok (lent_face (found.0), found.1, left)
 met left (Err stop) = Err stop
 
 -- The same of a function that takes what is read further: where it returned a value, the rest is read from there.

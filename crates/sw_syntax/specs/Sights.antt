@@ -2,6 +2,8 @@
 use Rattle.std.specs.Prelude.{Bool, true, false, ◌||◌, ℕ, zero, suc, List, [], ◌∷◌}
 use Rattle.sw_lex.specs.declared.token.TokenKind.TheVariants as k
 use Rattle.sw_lex.specs.declared.token.Token.{Token}
+use Rattle.sw_lex.specs.declared.tokens.TokenRef.{TokenRef}
+use Rattle.sw_lex.specs.Tokens.{token_of}
 use Rattle.sw_syntax.specs.declared.class.Class.{Class}
 use Rattle.sw_syntax.specs.declared.class.Class.TheVariants as class
 use Rattle.sw_syntax.specs.declared.class.Sight.{Sight}
@@ -60,6 +62,10 @@ broken_at (suc at) (token ∷ tokens) = token ∷ broken_at at tokens
 -- the face of a token
 abbrev pub token_face : Token → Face
 token_face token = record { kind = token.kind; text = token.text; span = token.span }
+
+-- the face of a token of a list
+abbrev pub lent_face : TokenRef → Face
+lent_face token = token_face (token_of token)
 
 -- the class of the first of these tokens
 abbrev pub first_class : List Token → Class

@@ -14,7 +14,7 @@ ghost use Rattle.sw_syntax.specs.Tokens.{face_of};
 
 use crate::class::{Class, Sight};
 use crate::source::{Source, Stop};
-use sw_lex::{Token, TokenKind};
+use sw_lex::{TokenKind, TokenRef};
 
 /// A test of a token that statements and declarations make.
 #[derive(Clone, Copy, Debug, PartialEq, Eq)]
@@ -351,7 +351,7 @@ pub fn expect_opening<'a>(
     source: &Source<'a>,
     at: usize,
     test: Opening,
-) -> Result<(&'a Token, usize), Stop>
+) -> Result<(TokenRef<'a>, usize), Stop>
     ensures gives { (left : ℕ) → Gives source.now (met left result) (one face_of (stands test) left (drop at source.now)) }
     ensures moves { Moves at (met 0 result) }
     ensures inside { Inside (length source.now) (met 0 result) }

@@ -1,13 +1,14 @@
 //! The tokens of a source, as the grammar sees them, and why a reader stops.
 
-ghost use Rattle.std.specs.Prelude.{◌≡◌, ◌<◌, ◌≤◌, ◌+◌, ℕ, Bool, List, [], drop, length, slice_index_or, true, OnSome};
+ghost use Rattle.std.specs.Prelude.{◌≡◌, ◌<◌, ◌≤◌, ◌+◌, ℕ, Bool, List, [], drop, length, true, OnSome};
 ghost use Rattle.sw_grammar.specs.Reading.{at_first, one};
 ghost use Rattle.sw_syntax.specs.Meaning.{Takes};
 ghost use Rattle.sw_syntax.specs.Reading.{first_sight, IntegersFit, Gives, Moves, Inside, met};
-ghost use Rattle.sw_syntax.specs.Sights.{broken_at, broken_if, first_class, passes, token_face};
+ghost use Rattle.sw_syntax.specs.Sights.{broken_at, broken_if, first_class, lent_face, passes};
 ghost use Rattle.sw_lex.specs.declared.token.TokenKind.TheVariants as k;
 ghost use Rattle.sw_lex.specs.Rules.{number};
 ghost use Rattle.sw_lex.specs.Tables.{is_same_text};
+ghost use Rattle.sw_lex.specs.Tokens.{token_of};
 ghost use Rattle.sw_syntax.specs.Tests.{is};
 ghost use Rattle.sw_syntax.specs.Tokens.{Sighted, sighted, class_in, is_next, touches_next, class_of_name, face_of};
 
@@ -15,7 +16,7 @@ use crate::class::{Class, Sight, Test, same_kind};
 use std::alloc::AllocError;
 use std::marker::Model;
 use sw_base::NoMemory;
-use sw_lex::{Token, TokenKind};
+use sw_lex::{TokenKind, TokenRef, Tokens};
 
 /// Why a reader stops: a token is refused, or memory is wanting.
 #[derive(Debug, Drop)]
@@ -59,7 +60,7 @@ pub struct Room {
     pub limit: u8,
 }
 
-fn is_next(tokens: &[Token], broken: usize, at: usize, kind: TokenKind) -> bool
+fn is_next(tokens: &Tokens, broken: usize, at: usize, kind: TokenKind) -> bool
     ensures { result ≡ is_next kind (drop at (broken_at broken tokens.now)) }
 {
     match tokens.get(at) {
@@ -68,13 +69,13 @@ fn is_next(tokens: &[Token], broken: usize, at: usize, kind: TokenKind) -> bool
     }
 }
 
-fn touches(token: &Token, is_broken: bool) -> bool
-    ensures { result ≡ (broken_if is_broken token.now).touches }
+fn touches(token: TokenRef<'_>, is_broken: bool) -> bool
+    ensures { result ≡ (broken_if is_broken (token_of token.entry)).touches }
 {
     token.touches && !is_broken
 }
 
-fn touches_next(tokens: &[Token], broken: usize, at: usize) -> bool
+fn touches_next(tokens: &Tokens, broken: usize, at: usize) -> bool
     ensures { result ≡ touches_next (drop at (broken_at broken tokens.now)) }
 {
     match tokens.get(at) {
@@ -90,7 +91,7 @@ fn is_word(text: &[u8], word: &[u8]) -> bool
 }
 
 /// What a name is, with the tokens from this place on behind it.
-fn class_of_name(text: &[u8], tokens: &[Token], broken: usize, behind: usize) -> Class
+fn class_of_name(text: &[u8], tokens: &Tokens, broken: usize, behind: usize) -> Class
     ensures { result ≡ class_of_name text.now (drop behind (broken_at broken tokens.now)) }
 {
     if is_word(text, b"actor") {
@@ -119,8 +120,8 @@ fn class_of_name(text: &[u8], tokens: &[Token], broken: usize, behind: usize) ->
 }
 
 /// What a `?` is, where a line break is put before it or none is.
-fn class_of_question(token: &Token, is_broken: bool) -> Class
-    ensures { result ≡ class_in k.Question (broken_if is_broken token.now) [] }
+fn class_of_question(token: TokenRef<'_>, is_broken: bool) -> Class
+    ensures { result ≡ class_in k.Question (broken_if is_broken (token_of token.entry)) [] }
 {
     if token.touches && !is_broken {
         Class::TouchingQuestion
@@ -132,8 +133,8 @@ fn class_of_question(token: &Token, is_broken: bool) -> Class
 }
 
 /// What a `!` is, where a line break is put before it or none is.
-fn class_of_bang(token: &Token, is_broken: bool) -> Class
-    ensures { result ≡ class_in k.Bang (broken_if is_broken token.now) [] }
+fn class_of_bang(token: TokenRef<'_>, is_broken: bool) -> Class
+    ensures { result ≡ class_in k.Bang (broken_if is_broken (token_of token.entry)) [] }
 {
     if token.touches && !is_broken {
         Class::TouchingBang
@@ -142,17 +143,17 @@ fn class_of_bang(token: &Token, is_broken: bool) -> Class
     }
 }
 
-fn is_first(token: &Token, is_broken: bool) -> bool
-    ensures { result ≡ (broken_if is_broken token.now).first_on_line }
+fn is_first(token: TokenRef<'_>, is_broken: bool) -> bool
+    ensures { result ≡ (broken_if is_broken (token_of token.entry)).first_on_line }
 {
     token.first_on_line || is_broken
 }
 
-fn class_at(tokens: &[Token], broken: usize, at: usize) -> Class
+fn class_at(tokens: &Tokens, broken: usize, at: usize) -> Class
     requires { at < length tokens.now }
     ensures { result ≡ first_class (drop at (broken_at broken tokens.now)) }
 {
-    let token = &tokens[at];
+    let token = tokens.at(at);
     match token.kind {
         TokenKind::Name => class_of_name(token.text.as_bytes(), tokens, broken, at + 1),
         TokenKind::Else => {
@@ -175,18 +176,10 @@ fn class_at(tokens: &[Token], broken: usize, at: usize) -> Class
     }
 }
 
-fn token_at(tokens: &[Token], at: usize) -> (&Token, usize)
-    requires { at < length tokens.now }
-    ensures token { result.0.now ≡ slice_index_or tokens.now at result.0.now }
-    ensures next { result.1 ≡ at + 1 }
-{
-    (&tokens[at], at + 1)
-}
-
 /// The tokens of a source, as the grammar sees them.
 #[derive(Debug, Drop)]
 pub struct Source<'a> {
-    tokens: &'a [Token],
+    tokens: &'a Tokens,
     /// The place of the token before which a line break is put; none stands at the end.
     broken: usize,
 }
@@ -206,7 +199,7 @@ impl<'a> Model for Source<'a> {
 
 impl<'a> Source<'a> {
     /// These tokens as they are.
-    pub fn new(tokens: &'a [Token]) -> Source<'a>
+    pub fn new(tokens: &'a Tokens) -> Source<'a>
         requires { IntegersFit (sighted tokens.now) }
         ensures { result ≡ sighted tokens.now }
     {
@@ -217,7 +210,7 @@ impl<'a> Source<'a> {
     }
 
     /// These tokens, with a line break before the one at this place.
-    pub fn with_break(tokens: &'a [Token], at: usize) -> Source<'a>
+    pub fn with_break(tokens: &'a Tokens, at: usize) -> Source<'a>
         requires { IntegersFit (sighted (broken_at at tokens.now)) }
         ensures { result ≡ sighted (broken_at at tokens.now) }
     {
@@ -257,17 +250,17 @@ impl<'a> Source<'a> {
     }
 
     /// The token at this place, which passed a test, and the place after it.
-    pub fn take(&self, at: usize) -> (&'a Token, usize)
+    pub fn take(&self, at: usize) -> (TokenRef<'a>, usize)
         requires { at < length self.now }
-        ensures taken { (f : Sighted → Bool) → at_first f (drop at self.now) ≡ true → Takes f (drop at self.now) (token_face result.0.now) (drop result.1 self.now) }
-        ensures fits { at_first (is k.Integer) (drop at self.now) ≡ true → number 0 result.0.now.text ≤ 9223372036854775807 }
+        ensures taken { (f : Sighted → Bool) → at_first f (drop at self.now) ≡ true → Takes f (drop at self.now) (lent_face result.0) (drop result.1 self.now) }
+        ensures fits { at_first (is k.Integer) (drop at self.now) ≡ true → number 0 result.0.text.now ≤ 9223372036854775807 }
         ensures next { result.1 ≡ at + 1 }
     {
-        token_at(self.tokens, at)
+        (self.tokens.at(at), at + 1)
     }
 
     /// The token at this place, if it passes a test, and the place after it.
-    pub fn expect(&self, at: usize, test: Test) -> Result<(&'a Token, usize), Stop>
+    pub fn expect(&self, at: usize, test: Test) -> Result<(TokenRef<'a>, usize), Stop>
         ensures gives { (left : ℕ) → Gives self.now (met left result) (one face_of (passes test) left (drop at self.now)) }
         ensures moves { Moves at (met 0 result) }
         ensures inside { Inside (length self.now) (met 0 result) }

@@ -6,22 +6,25 @@ use Rattle.sw_syntax.proofs.SightLemmas as sights
 use Rattle.std.proofs.Common.{Bool, true, ◌+◌, slice_index_or}
 use Rattle.sw_grammar.specs.Reading.{at_first, got}
 use Rattle.sw_syntax.specs.Tokens.{Sighted}
-use Rattle.sw_syntax.specs.Sights.{token_face}
+use Rattle.sw_syntax.specs.Sights.{token_face, lent_face}
 use Rattle.sw_syntax.specs.Meaning.{Takes}
 use Rattle.sw_syntax.specs.Tests.{is}
 use Rattle.sw_lex.specs.Rules.{number}
 use Rattle.std.proofs.Common.{◌≤◌}
+use Rattle.std.proofs.lemmas.Option.{get_or_from_slice_get}
+use Rattle.sw_lex.specs.declared.token.Token.{Token}
+use Rattle.sw_lex.specs.Tokens.{token_of}
 use Rattle.sw_syntax.proofs.source.Source.take.Goals as goal
 
-pub token_at-requires : goal.token_at-requires
-token_at-requires c = subst (λ n. c.args.at < n) (ap (λ r. length r) (sym c.self.view_is) ∙ sights.source_length c.self.inside.broken c.self.inside.tokens.now) c.requires
+pub at-requires : goal.at-requires
+at-requires c = subst (λ n. c.args.at < n) (ap (λ r. length r) (sym c.self.view_is) ∙ sights.source_length c.self.inside.broken c.self.inside.tokens.now) c.requires
 
 pub returns-clause-taken : goal.returns-clause-taken
-returns-clause-taken c = subst (λ v. (f : Sighted → Bool) → at_first f (drop c.args.at v) ≡ true → Takes f (drop c.args.at v) (token_face c.token_at.result.0.now) (drop c.token_at.result.1 v)) c.self.view_is
-    (λ f h left. sights.taken f left c.self.inside.broken c.args.at c.self.inside.tokens.now c.token_at.result.0.now (subst (λ n. c.args.at < n) (ap (λ r. length r) (sym c.self.view_is) ∙ sights.source_length c.self.inside.broken c.self.inside.tokens.now) c.requires) h
-    ∙ ap (λ t. got (token_face t) left (drop (c.args.at + 1) (sighted (broken_at c.self.inside.broken c.self.inside.tokens.now)))) (sym c.token_at.ensures.token) ∙ ap (λ n. got (token_face c.token_at.result.0.now) left (drop n (sighted (broken_at c.self.inside.broken c.self.inside.tokens.now)))) (sym c.token_at.ensures.next))
+returns-clause-taken c = subst (λ v. (f : Sighted → Bool) → at_first f (drop c.args.at v) ≡ true → Takes f (drop c.args.at v) (lent_face c.at.result) (drop (c.args.at + 1) v)) c.self.view_is
+    (λ f h left. sights.taken f left c.self.inside.broken c.args.at c.self.inside.tokens.now (token_of c.at.result) (subst (λ n. c.args.at < n) (ap (λ r. length r) (sym c.self.view_is) ∙ sights.source_length c.self.inside.broken c.self.inside.tokens.now) c.requires) h
+    ∙ ap (λ t. got (token_face t) left (drop (c.args.at + 1) (sighted (broken_at c.self.inside.broken c.self.inside.tokens.now)))) (get_or_from_slice_get c.self.inside.tokens.now c.args.at (token_of c.at.result) (token_of c.at.result) c.at.ensures.token))
 
 pub returns-clause-fits : goal.returns-clause-fits
-returns-clause-fits c = subst (λ v. at_first (is k.Integer) (drop c.args.at v) ≡ true → number 0 c.token_at.result.0.now.text ≤ 9223372036854775807) c.self.view_is
-    (λ h. subst (λ t. number 0 t.text ≤ 9223372036854775807) (sym c.token_at.ensures.token) (sights.fits_taken (drop c.args.at (sighted (broken_at c.self.inside.broken c.self.inside.tokens.now))) (token_face (slice_index_or c.self.inside.tokens.now c.args.at c.token_at.result.0.now)) (drop (c.args.at + 1) (sighted (broken_at c.self.inside.broken c.self.inside.tokens.now)))
-    (sights.fits_drop c.args.at (sighted (broken_at c.self.inside.broken c.self.inside.tokens.now)) c.self.invariant) h (λ left. sights.taken (is k.Integer) left c.self.inside.broken c.args.at c.self.inside.tokens.now c.token_at.result.0.now (subst (λ n. c.args.at < n) (ap (λ r. length r) (sym c.self.view_is) ∙ sights.source_length c.self.inside.broken c.self.inside.tokens.now) c.requires) h)))
+returns-clause-fits c = subst (λ v. at_first (is k.Integer) (drop c.args.at v) ≡ true → number 0 c.at.result.text.now ≤ 9223372036854775807) c.self.view_is
+    (λ h. subst (λ (t : Token). number 0 t.text ≤ 9223372036854775807) (get_or_from_slice_get c.self.inside.tokens.now c.args.at (token_of c.at.result) (token_of c.at.result) c.at.ensures.token) (sights.fits_taken (drop c.args.at (sighted (broken_at c.self.inside.broken c.self.inside.tokens.now))) (token_face (slice_index_or c.self.inside.tokens.now c.args.at (token_of c.at.result))) (drop (c.args.at + 1) (sighted (broken_at c.self.inside.broken c.self.inside.tokens.now)))
+    (sights.fits_drop c.args.at (sighted (broken_at c.self.inside.broken c.self.inside.tokens.now)) c.self.invariant) h (λ left. sights.taken (is k.Integer) left c.self.inside.broken c.args.at c.self.inside.tokens.now (token_of c.at.result) (subst (λ n. c.args.at < n) (ap (λ r. length r) (sym c.self.view_is) ∙ sights.source_length c.self.inside.broken c.self.inside.tokens.now) c.requires) h)))
