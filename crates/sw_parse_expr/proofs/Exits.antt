@@ -21,12 +21,11 @@ use Rattle.sw_tree.specs.declared.expr.Expr.TheVariants as e
 use Rattle.sw_tree.specs.declared.expr.Literal.TheVariants as literal
 use Rattle.sw_tree.specs.declared.expr.StringPiece.{StringPiece}
 
-pub string_node : (at : Span) (text text' : Text) (done pieces : List StringPiece) (x : Expr) (last : Text) (p : StringPiece) (left : ℕ) (r : List Sighted)
-    → text' ≡ text → pieces ≡ done ++ p ∷ [] → p ≡ record { value = x; text = last }
-    → ◌≡◌ {A = Out Sighted Expr} (got (e.Literal at (literal.String text (done ++ record { value = x; text = last } ∷ []))) left r) (got (e.Literal at (literal.String text' pieces)) left r)
-string_node at text text' done pieces x last p left r same all piece =
-    ap (λ z. got (e.Literal at (literal.String z (done ++ record { value = x; text = last } ∷ []))) left r) (sym same)
-    ∙ ap (λ z. got (e.Literal at (literal.String text' z)) left r) (ap (λ q. done ++ q ∷ []) (sym piece) ∙ sym all)
+pub string_node : (at : Span) (text : Text) (done pieces : List StringPiece) (x : Expr) (last : Text) (p : StringPiece) (left : ℕ) (r : List Sighted)
+    → pieces ≡ done ++ p ∷ [] → p ≡ record { value = x; text = last }
+    → ◌≡◌ {A = Out Sighted Expr} (got (e.Literal at (literal.String text (done ++ record { value = x; text = last } ∷ []))) left r) (got (e.Literal at (literal.String text pieces)) left r)
+string_node at text done pieces x last p left r all piece =
+    ap (λ z. got (e.Literal at (literal.String text z)) left r) (ap (λ q. done ++ q ∷ []) (sym piece) ∙ sym all)
 
 -- nothing that a type begins with
 pub base_none : (lenient : Bool) (d l c : ℕ) (ts : List Sighted) → at_first is_name ts ≡ false → at_first (is k.LeftBracket) ts ≡ false → at_first (is k.Any) ts ≡ false → at_first (is k.LeftParen) ts ≡ false → read lenient Base d l c ts ≡ bad stuck ts

@@ -18,12 +18,12 @@ use Rattle.sw_tree.specs.declared.stmt.Pattern.TheVariants as p
 pub told_literal : (at : Span) (x y : Literal) (c : ℕ) (r : List Sighted) → y ≡ x → ◌≡◌ {A = Out Sighted (Span × Literal)} (got (at, x) c r) (got (at, y) c r)
 told_literal at x y c r e = cc
 
-pub told_string : (at : Span) (text text' : Text) (done pieces : List StringPiece) (x : Expr) (last : Text) (piece : StringPiece) (left : ℕ) (r : List Sighted)
-    → text' ≡ text → pieces ≡ done ++ piece ∷ [] → piece ≡ record { value = x; text = last }
-    → ◌≡◌ {A = Out Sighted (Span × Literal)} (got (at, literal.String text (done ++ record { value = x; text = last } ∷ [])) left r) (got (at, literal.String text' pieces) left r)
-told_string at text text' done pieces x last piece left r same all e =
-    told_literal at (literal.String text (done ++ record { value = x; text = last } ∷ [])) (literal.String text' pieces) left r
-    (ap (λ z. literal.String z pieces) same ∙ ap (λ z. literal.String text z) (all ∙ ap (λ q. done ++ q ∷ []) e))
+pub told_string : (at : Span) (text : Text) (done pieces : List StringPiece) (x : Expr) (last : Text) (piece : StringPiece) (left : ℕ) (r : List Sighted)
+    → pieces ≡ done ++ piece ∷ [] → piece ≡ record { value = x; text = last }
+    → ◌≡◌ {A = Out Sighted (Span × Literal)} (got (at, literal.String text (done ++ record { value = x; text = last } ∷ [])) left r) (got (at, literal.String text pieces) left r)
+told_string at text done pieces x last piece left r all e =
+    told_literal at (literal.String text (done ++ record { value = x; text = last } ∷ [])) (literal.String text pieces) left r
+    (ap (λ z. literal.String text z) (all ∙ ap (λ q. done ++ q ∷ []) e))
 
 pub some_name : (x y : Name) (c : ℕ) (r : List Sighted) → y ≡ x → ◌≡◌ {A = Out Sighted (Option Name)} (got (Some x) c r) (got (Some y) c r)
 some_name x y c r e = ap (λ n. got (Some n) c r) (sym e)

@@ -14,10 +14,10 @@ ghost use Rattle.sw_syntax.specs.Tests.{is, is_bool, is_call, is_index, starts_l
 use crate::{literals, nodes};
 use sqlite_items::Items;
 use std::alloc::Global;
-use sw_base::{Duplicate, Span};
+use sw_base::Span;
 use sw_lex::TokenKind;
 use sw_syntax::{Room, Source, Stop, Test, trimmed};
-use sw_tree::{Argument, Expr, Literal};
+use sw_tree::{Argument, Expr};
 
 /// What was read, the place after it, and how many more parts may be counted.
 type Reading<T> = Result<(T, usize, u8), Stop>;
@@ -465,7 +465,7 @@ fn prim(alloc: Global, source: &Source, lenient: bool, at: usize, room: Room) ->
     }
     if source.is(at, Test::Name) {
         let (token, end) = source.take(at);
-        let node = nodes::named(token)?;
+        let node = nodes::named(alloc, token)?;
         return Ok((node, end, room.left));
     }
     if source.is(at, Test::Is(TokenKind::Self_)) {
@@ -475,7 +475,7 @@ fn prim(alloc: Global, source: &Source, lenient: bool, at: usize, room: Room) ->
     if source.is(at, Test::Is(TokenKind::Dot)) {
         let (dot, next) = source.take(at);
         let (token, end) = source.expect(next, Test::Name)?;
-        let node = nodes::implicit(dot.span, token)?;
+        let node = nodes::implicit(alloc, dot.span, token)?;
         return Ok((node, end, room.left));
     }
     if source.is(at, Test::Is(TokenKind::LeftParen)) {
@@ -528,7 +528,8 @@ fn array(alloc: Global, source: &Source, lenient: bool, at: usize, room: Room) -
     let (xs, end, left) = elements(alloc, source, lenient, next, inner)?;
     let (_, behind) = source.expect(end, Test::Is(TokenKind::RightBracket))?;
     let kept = trimmed(alloc, xs)?;
-    Ok((Expr::Array(open.span, kept), behind, left))
+    let node = nodes::array(alloc, open.span, kept)?;
+    Ok((node, behind, left))
 }
 
 /// The elements of an array, perhaps none. A comma may follow the last.
@@ -571,11 +572,13 @@ fn literal(alloc: Global, source: &Source, lenient: bool, at: usize, room: Room)
 {
     if source.is(at, Test::Is(TokenKind::Integer)) {
         let (token, end) = source.take(at);
-        return Ok((literals::integer(token), end, room.left));
+        let node = literals::integer(alloc, token)?;
+        return Ok((node, end, room.left));
     }
     if source.is(at, Test::Bool) {
         let (token, end) = source.take(at);
-        return Ok((literals::boolean(token), end, room.left));
+        let node = literals::boolean(alloc, token)?;
+        return Ok((node, end, room.left));
     }
     if source.is(at, Test::Is(TokenKind::StringWhole)) {
         let (token, end) = source.take(at);
@@ -616,10 +619,6 @@ fn string(alloc: Global, source: &Source, lenient: bool, at: usize, room: Room) 
     let piece = literals::piece(x, last)?;
     pieces.push(piece)?;
     let kept = trimmed(alloc, pieces)?;
-    let text = start.text.copy()?;
-    Ok((
-        Expr::Literal(start.span, Literal::String(text, kept)),
-        behind,
-        left,
-    ))
+    let node = literals::string(alloc, start, kept)?;
+    Ok((node, behind, left))
 }

@@ -5,8 +5,8 @@ ghost use Rattle.sw_lex.specs.Rules.{number};
 ghost use Rattle.sw_syntax.specs.Sights.{token_face};
 ghost use Rattle.sw_syntax.specs.Values as spec;
 
-use sqlite_items::Items;
-use std::alloc::Global;
+use sqlite_items::{Boxed, Items};
+use std::alloc::{AllocError, Global};
 use sw_base::{Duplicate, NoMemory, Text};
 use sw_lex::{Token, TokenKind};
 use sw_tree::{Expr, Literal, StringPiece};
@@ -35,14 +35,12 @@ fn number_of(digits: &[u8]) -> i64
 }
 
 /// The expression of an integer.
-pub fn integer(token: &Token) -> Expr
+pub fn integer(alloc: Global, token: &Token) -> Result<Expr, AllocError>
     requires { number 0 token.now.text ≤ 9223372036854775807 }
-    ensures { result ≡ Expr.Literal token.now.span (spec.integer_of (token_face token.now)) }
+    ensures { IfOk result (λ x. x ≡ Expr.Literal token.now.span (spec.integer_of (token_face token.now))) }
 {
-    Expr::Literal(
-        token.span,
-        Literal::Integer(number_of(token.text.as_bytes())),
-    )
+    let value = Boxed::new(alloc, integer_value(token))?;
+    Ok(Expr::Literal(token.span, value))
 }
 
 fn is_true(kind: TokenKind) -> bool
@@ -55,18 +53,26 @@ fn is_true(kind: TokenKind) -> bool
 }
 
 /// The expression of `true` or `false`.
-pub fn boolean(token: &Token) -> Expr
-    ensures { result ≡ Expr.Literal token.now.span (Literal.Bool (spec.bool_of token.now.kind)) }
+pub fn boolean(alloc: Global, token: &Token) -> Result<Expr, AllocError>
+    ensures { IfOk result (λ x. x ≡ Expr.Literal token.now.span (Literal.Bool (spec.bool_of token.now.kind))) }
 {
-    Expr::Literal(token.span, Literal::Bool(is_true(token.kind)))
+    let value = Boxed::new(alloc, boolean_value(token))?;
+    Ok(Expr::Literal(token.span, value))
 }
 
 /// A string with no expressions.
 pub fn text(alloc: Global, token: &Token) -> Result<Expr, NoMemory>
     ensures { IfOk result (λ x. x ≡ Expr.Literal token.now.span (Literal.String token.now.text [])) }
 {
-    let text = token.text.copy()?;
-    Ok(Expr::Literal(token.span, Literal::String(text, Items::new(alloc))))
+    string(alloc, token, Items::new(alloc))
+}
+
+/// A string that begins with this token, and the pieces behind it.
+pub fn string(alloc: Global, token: &Token, pieces: Items<StringPiece>) -> Result<Expr, NoMemory>
+    ensures { IfOk result (λ x. x ≡ Expr.Literal token.now.span (Literal.String token.now.text pieces)) }
+{
+    let value = string_value(alloc, token, pieces)?;
+    Ok(Expr::Literal(token.span, Boxed::new(alloc, value)?))
 }
 
 /// An expression of a string, and the text behind it.
@@ -96,6 +102,18 @@ pub fn boolean_value(token: &Token) -> Literal
 pub fn text_value(alloc: Global, token: &Token) -> Result<Literal, NoMemory>
     ensures { IfOk result (λ x. x ≡ Literal.String token.now.text []) }
 {
+    string_value(alloc, token, Items::new(alloc))
+}
+
+/// The value of a string that begins with this token, with the pieces behind it.
+pub fn string_value(
+    alloc: Global,
+    token: &Token,
+    pieces: Items<StringPiece>,
+) -> Result<Literal, NoMemory>
+    ensures { IfOk result (λ x. x ≡ Literal.String token.now.text pieces) }
+{
     let text = token.text.copy()?;
-    Ok(Literal::String(text, Items::new(alloc)))
+    let text = Boxed::new(alloc, text)?;
+    Ok(Literal::String(text, Boxed::new(alloc, pieces)?))
 }

@@ -95,21 +95,19 @@ pub fn with_marks(
 
 /// A condition and the two expressions that it chooses between.
 pub fn ternary(alloc: Global, condition: Expr, x: Expr, y: Expr) -> Result<Expr, AllocError>
-    ensures { IfOk result (λ z. z ≡ Expr.Ternary condition x y) }
+    ensures { IfOk result (λ z. z ≡ Expr.Ternary condition (x, y)) }
 {
     let condition = Boxed::new(alloc, condition)?;
-    let x = Boxed::new(alloc, x)?;
-    let y = Boxed::new(alloc, y)?;
-    Ok(Expr::Ternary(condition, x, y))
+    let branches = Boxed::new(alloc, (x, y))?;
+    Ok(Expr::Ternary(condition, branches))
 }
 
 /// Two operands and the mark between them.
 pub fn binary(alloc: Global, mark: &Token, left: Expr, right: Expr) -> Result<Expr, AllocError>
-    ensures { IfOk result (λ x. x ≡ Expr.Binary (spec.binary_of mark.now.kind) mark.now.span left right) }
+    ensures { IfOk result (λ x. x ≡ Expr.Binary (spec.binary_of mark.now.kind) mark.now.span (left, right)) }
 {
-    let left = Boxed::new(alloc, left)?;
-    let right = Boxed::new(alloc, right)?;
-    Ok(Expr::Binary(binary_operator(mark.kind), mark.span, left, right))
+    let operands = Boxed::new(alloc, (left, right))?;
+    Ok(Expr::Binary(binary_operator(mark.kind), mark.span, operands))
 }
 
 /// An operand behind its sign.
@@ -125,7 +123,8 @@ pub fn member(alloc: Global, base: Expr, token: &Token) -> Result<Expr, NoMemory
     ensures { IfOk result (λ y. y ≡ Expr.Member base (spec.name_of (token_face token.now))) }
 {
     let member = name(token)?;
-    Ok(Expr::Member(Boxed::new(alloc, base)?, member))
+    let base = Boxed::new(alloc, base)?;
+    Ok(Expr::Member(base, Boxed::new(alloc, member)?))
 }
 
 /// A call of a base, with its arguments.
@@ -135,17 +134,18 @@ pub fn call(
     at: Span,
     arguments: Items<Argument>,
 ) -> Result<Expr, AllocError>
-    ensures { IfOk result (λ y. y ≡ Expr.Call base at arguments) }
+    ensures { IfOk result (λ y. y ≡ Expr.Call base (at, arguments)) }
 {
-    Ok(Expr::Call(Boxed::new(alloc, base)?, at, arguments))
+    let base = Boxed::new(alloc, base)?;
+    Ok(Expr::Call(base, Boxed::new(alloc, (at, arguments))?))
 }
 
 /// A base with an index.
 pub fn index(alloc: Global, base: Expr, at: Span, x: Expr) -> Result<Expr, AllocError>
-    ensures { IfOk result (λ y. y ≡ Expr.Index base at x) }
+    ensures { IfOk result (λ y. y ≡ Expr.Index base (at, x)) }
 {
     let base = Boxed::new(alloc, base)?;
-    Ok(Expr::Index(base, at, Boxed::new(alloc, x)?))
+    Ok(Expr::Index(base, Boxed::new(alloc, (at, x))?))
 }
 
 /// A base with `!` behind it.
@@ -162,18 +162,27 @@ pub fn paren(alloc: Global, at: Span, x: Expr) -> Result<Expr, AllocError>
     Ok(Expr::Paren(at, Boxed::new(alloc, x)?))
 }
 
+/// An array of these elements.
+pub fn array(alloc: Global, at: Span, elements: Items<Expr>) -> Result<Expr, AllocError>
+    ensures { IfOk result (λ y. y ≡ Expr.Array at elements) }
+{
+    Ok(Expr::Array(at, Boxed::new(alloc, elements)?))
+}
+
 /// The name that a token spells, as an expression.
-pub fn named(token: &Token) -> Result<Expr, NoMemory>
+pub fn named(alloc: Global, token: &Token) -> Result<Expr, NoMemory>
     ensures { IfOk result (λ x. x ≡ Expr.Name (spec.name_of (token_face token.now))) }
 {
-    Ok(Expr::Name(name(token)?))
+    let name = name(token)?;
+    Ok(Expr::Name(Boxed::new(alloc, name)?))
 }
 
 /// The name behind a `.` that has no base.
-pub fn implicit(at: Span, token: &Token) -> Result<Expr, NoMemory>
+pub fn implicit(alloc: Global, at: Span, token: &Token) -> Result<Expr, NoMemory>
     ensures { IfOk result (λ x. x ≡ Expr.Implicit at (spec.name_of (token_face token.now))) }
 {
-    Ok(Expr::Implicit(at, name(token)?))
+    let name = name(token)?;
+    Ok(Expr::Implicit(at, Boxed::new(alloc, name)?))
 }
 
 /// A value behind its label.

@@ -11,7 +11,7 @@ use crate::expressions::expr;
 use crate::literals;
 use sqlite_items::Items;
 use std::alloc::Global;
-use sw_base::{Duplicate, Span};
+use sw_base::Span;
 use sw_lex::TokenKind;
 use sw_syntax::{Room, Source, Stop, Test, trimmed};
 use sw_tree::Literal;
@@ -84,6 +84,6 @@ fn string(
     let piece = literals::piece(x, last)?;
     pieces.push(piece)?;
     let kept = trimmed(alloc, pieces)?;
-    let text = start.text.copy()?;
-    Ok(((start.span, Literal::String(text, kept)), behind, room.left))
+    let value = literals::string_value(alloc, start, kept)?;
+    Ok(((start.span, value), behind, room.left))
 }

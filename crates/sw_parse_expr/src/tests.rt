@@ -25,18 +25,18 @@ fn put(text: &mut Text, bytes: &[u8]) -> Result<(), Fail> {
 #[cycle(write)]
 fn write(alloc: Global, text: &mut Text, tree: &Expr) -> Result<(), Fail> {
     match tree {
-        Expr::Name(name) => put(text, name.text.as_bytes()),
+        Expr::Name(name) => put(text, name.get().text.as_bytes()),
         Expr::SelfValue(_) => put(text, b"self"),
         Expr::Nil(_) => put(text, b"nil"),
         Expr::Implicit(_, name) => {
             put(text, b".")?;
-            put(text, name.text.as_bytes())
+            put(text, name.get().text.as_bytes())
         }
-        Expr::Literal(_, literal) => write_literal(alloc, text, literal),
+        Expr::Literal(_, literal) => write_literal(alloc, text, literal.get()),
         Expr::Array(_, elements) => {
             put(text, b"[")?;
             let mut is_first = true;
-            for element in elements.as_slice() {
+            for element in elements.get().as_slice() {
                 if !is_first {
                     put(text, b" ")?;
                 }
@@ -74,17 +74,19 @@ fn write_form(alloc: Global, text: &mut Text, tree: &Expr) -> Result<(), Fail> {
             put(text, b"await")?;
             write_part(alloc, text, x.get())
         }
-        Expr::Ternary(condition, x, y) => {
+        Expr::Ternary(condition, branches) => {
+            let (x, y) = branches.get();
             put(text, b"?")?;
             write_part(alloc, text, condition.get())?;
-            write_part(alloc, text, x.get())?;
-            write_part(alloc, text, y.get())
+            write_part(alloc, text, x)?;
+            write_part(alloc, text, y)
         }
-        Expr::Binary(operator, _, left, right) => {
+        Expr::Binary(operator, _, operands) => {
+            let (left, right) = operands.get();
             let name = format!(in alloc; "{operator:?}")?;
             put(text, name.as_bytes())?;
-            write_part(alloc, text, left.get())?;
-            write_part(alloc, text, right.get())
+            write_part(alloc, text, left)?;
+            write_part(alloc, text, right)
         }
         Expr::Prefix(operator, _, x) => {
             let name = format!(in alloc; "{operator:?}")?;
@@ -95,9 +97,10 @@ fn write_form(alloc: Global, text: &mut Text, tree: &Expr) -> Result<(), Fail> {
             put(text, b".")?;
             write_part(alloc, text, base.get())?;
             put(text, b" ")?;
-            put(text, name.text.as_bytes())
+            put(text, name.get().text.as_bytes())
         }
-        Expr::Call(callee, _, arguments) => {
+        Expr::Call(callee, list) => {
+            let (_, arguments) = list.get();
             put(text, b"call")?;
             write_part(alloc, text, callee.get())?;
             for argument in arguments.as_slice() {
@@ -105,10 +108,11 @@ fn write_form(alloc: Global, text: &mut Text, tree: &Expr) -> Result<(), Fail> {
             }
             Ok(())
         }
-        Expr::Index(base, _, index) => {
+        Expr::Index(base, place) => {
+            let (_, index) = place.get();
             put(text, b"index")?;
             write_part(alloc, text, base.get())?;
-            write_part(alloc, text, index.get())
+            write_part(alloc, text, index)
         }
         Expr::Force(base, _) => {
             put(text, b"!")?;
@@ -142,8 +146,8 @@ fn write_literal(alloc: Global, text: &mut Text, literal: &Literal) -> Result<()
         Literal::Bool(value) => put(text, if *value { b"true" } else { b"false" }),
         Literal::String(first, pieces) => {
             put(text, b"\"")?;
-            put(text, first.as_bytes())?;
-            for piece in pieces.as_slice() {
+            put(text, first.get().as_bytes())?;
+            for piece in pieces.get().as_slice() {
                 put(text, b"{")?;
                 write(alloc, text, &piece.value)?;
                 put(text, b"}")?;

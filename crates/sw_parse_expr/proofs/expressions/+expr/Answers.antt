@@ -311,7 +311,7 @@ array-returns-in_err-behind-clause-gives t c =
     rw (p.1, p.2) (passes _ _ _ _ _ (after _ _ _ _ _ _ (prim.prim_array _ _ _ _ _ _ _ c.requires.0 c.requires.1 c.requires.2 c.if-room-eq0.false (c.take-next.ensures.taken (is k.LeftBracket) (sym c.is.ensures.value ∙ c.if-not-is.false))) (c.in_ok-xs.ensures.gives)) (c.in_err-behind.ensures.gives c.in_ok-xs.left))
 
 pub array-returns-clause-gives : goal.array-returns-clause-gives
-array-returns-clause-gives t c = rw (c.in_ok-kept.ensures) (after _ _ _ _ _ _ (after _ _ _ _ _ _ (prim.prim_array _ _ _ _ _ _ _ c.requires.0 c.requires.1 c.requires.2 c.if-room-eq0.false (c.take-next.ensures.taken (is k.LeftBracket) (sym c.is.ensures.value ∙ c.if-not-is.false))) (c.in_ok-xs.ensures.gives)) (c.in_ok-behind.ensures.gives c.in_ok-xs.left))
+array-returns-clause-gives t c = rw (c.in_ok-node.ensures) (rw (c.in_ok-kept.ensures) (after _ _ _ _ _ _ (after _ _ _ _ _ _ (prim.prim_array _ _ _ _ _ _ _ c.requires.0 c.requires.1 c.requires.2 c.if-room-eq0.false (c.take-next.ensures.taken (is k.LeftBracket) (sym c.is.ensures.value ∙ c.if-not-is.false))) (c.in_ok-xs.ensures.gives)) (c.in_ok-behind.ensures.gives c.in_ok-xs.left)))
 
 pub elements-elements-init : goal.elements-elements-init
 elements-elements-init t c = record {
@@ -339,13 +339,13 @@ pub elements-returns-clause-gives : goal.elements-returns-clause-gives
 elements-returns-clause-gives t c = c.elements.invariant.so_far ∙ prim.more_elements_end _ _ _ _ _ _ (sym c.is.ensures.value ∙ c.elements-test.false)
 
 pub literal-returns-then-is-clause-gives : goal.literal-returns-then-is-clause-gives
-literal-returns-then-is-clause-gives t c = prim.prim_integer _ _ _ _ _ _ _ (sym c.is.ensures.value ∙ c.if-is.true) (c.take-end.ensures.taken (is k.Integer) (sym c.is.ensures.value ∙ c.if-is.true)) ∙ ap (λ x. got x c.args.room.left (drop c.take-end.result.1 c.args.source.now)) (sym c.integer.ensures)
+literal-returns-then-is-clause-gives t c = prim.prim_integer _ _ _ _ _ _ _ (sym c.is.ensures.value ∙ c.if-is.true) (c.take-end.ensures.taken (is k.Integer) (sym c.is.ensures.value ∙ c.if-is.true)) ∙ ap (λ x. got x c.args.room.left (drop c.take-end.result.1 c.args.source.now)) (sym c.in_ok-node.ensures)
 
 pub literal-returns-then-is-2-clause-gives : goal.literal-returns-then-is-2-clause-gives
-literal-returns-then-is-2-clause-gives t c = prim.prim_bool _ _ _ _ _ _ _ (sym c.is.ensures.value ∙ c.if-is.false) (sym c.is-2.ensures.value ∙ c.if-is-2.true) (c.take-end-then-is-2.ensures.taken is_bool (sym c.is-2.ensures.value ∙ c.if-is-2.true)) ∙ ap (λ x. got x c.args.room.left (drop c.take-end-then-is-2.result.1 c.args.source.now)) (sym c.boolean.ensures)
+literal-returns-then-is-2-clause-gives t c = prim.prim_bool _ _ _ _ _ _ _ (sym c.is.ensures.value ∙ c.if-is.false) (sym c.is-2.ensures.value ∙ c.if-is-2.true) (c.take-end-then-is-2.ensures.taken is_bool (sym c.is-2.ensures.value ∙ c.if-is-2.true)) ∙ ap (λ x. got x c.args.room.left (drop c.take-end-then-is-2.result.1 c.args.source.now)) (sym c.in_ok-node-2.ensures)
 
 pub literal-returns-then-is-3-clause-gives : goal.literal-returns-then-is-3-clause-gives
-literal-returns-then-is-3-clause-gives t c = prim.prim_string _ _ _ _ _ _ _ (sym c.is.ensures.value ∙ c.if-is.false) (sym c.is-2.ensures.value ∙ c.if-is-2.false) (sym c.is-3.ensures.value ∙ c.if-is-3.true) (c.take-end-then-is-3.ensures.taken (is k.StringWhole) (sym c.is-3.ensures.value ∙ c.if-is-3.true)) ∙ ap (λ y. got y c.args.room.left (drop c.take-end-then-is-3.result.1 c.args.source.now)) (sym c.in_ok-node.ensures)
+literal-returns-then-is-3-clause-gives t c = prim.prim_string _ _ _ _ _ _ _ (sym c.is.ensures.value ∙ c.if-is.false) (sym c.is-2.ensures.value ∙ c.if-is-2.false) (sym c.is-3.ensures.value ∙ c.if-is-3.true) (c.take-end-then-is-3.ensures.taken (is k.StringWhole) (sym c.is-3.ensures.value ∙ c.if-is-3.true)) ∙ ap (λ y. got y c.args.room.left (drop c.take-end-then-is-3.result.1 c.args.source.now)) (sym c.in_ok-node-3.ensures)
 
 pub string-returns-then-room-eq0-clause-gives : goal.string-returns-then-room-eq0-clause-gives
 string-returns-then-room-eq0-clause-gives t c = prim.string_deep _ _ _ _ _ c.requires.0 c.requires.1 c.requires.2 c.requires.3 c.if-room-eq0.true
@@ -380,4 +380,4 @@ string-returns-in_err-last-clause-gives t c =
     rw (p.1, p.2) (passes _ _ _ _ _ (c.pieces.invariant.so_far ∙ prim.string_last _ _ _ _ _ _ _ _ _ (sym c.is.ensures.value ∙ c.pieces-test.false)) (c.in_err-last.ensures.gives c.pieces.left))
 
 pub string-returns-clause-gives : goal.string-returns-clause-gives
-string-returns-clause-gives t c = rw (c.in_ok-kept.ensures) (after _ _ _ _ _ _ (c.pieces.invariant.so_far ∙ prim.string_last _ _ _ _ _ _ _ _ _ (sym c.is.ensures.value ∙ c.pieces-test.false)) (c.in_ok-last.ensures.gives c.pieces.left) ∙ string_node _ _ _ _ _ _ _ _ _ _ c.in_ok-text.ensures c.in_ok-push-2.ensures.ok c.in_ok-piece-2.ensures)
+string-returns-clause-gives t c = rw (c.in_ok-node.ensures) (rw (c.in_ok-kept.ensures) (after _ _ _ _ _ _ (c.pieces.invariant.so_far ∙ prim.string_last _ _ _ _ _ _ _ _ _ (sym c.is.ensures.value ∙ c.pieces-test.false)) (c.in_ok-last.ensures.gives c.pieces.left) ∙ string_node _ _ _ _ _ _ _ _ _ c.in_ok-push-2.ensures.ok c.in_ok-piece-2.ensures))

@@ -41,4 +41,4 @@ returns-in_err-last-clause-gives c =
     rw (p.1, p.2) (passes _ _ _ _ _ (c.pieces.invariant.so_far ∙ pat.pieces_last _ _ _ _ _ _ _ _ _ (sym c.is.ensures.value ∙ c.pieces-test.false)) (c.in_err-last.ensures.gives c.args.room.left))
 
 pub returns-clause-gives : goal.returns-clause-gives
-returns-clause-gives c = rw (c.in_ok-kept.ensures) (after _ _ _ _ _ _ (c.pieces.invariant.so_far ∙ pat.pieces_last _ _ _ _ _ _ _ _ _ (sym c.is.ensures.value ∙ c.pieces-test.false)) (c.in_ok-last.ensures.gives c.args.room.left) ∙ told_string _ _ _ _ _ _ _ _ _ _ c.in_ok-text.ensures c.in_ok-push-2.ensures.ok c.in_ok-piece-2.ensures)
+returns-clause-gives c = rw (c.in_ok-value.ensures) (rw (c.in_ok-kept.ensures) (after _ _ _ _ _ _ (c.pieces.invariant.so_far ∙ pat.pieces_last _ _ _ _ _ _ _ _ _ (sym c.is.ensures.value ∙ c.pieces-test.false)) (c.in_ok-last.ensures.gives c.args.room.left) ∙ told_string _ _ _ _ _ _ _ _ _ c.in_ok-push-2.ensures.ok c.in_ok-piece-2.ensures))
