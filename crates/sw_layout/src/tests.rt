@@ -106,8 +106,8 @@ const OTHERS: [TokenKind; 7] = [
 /// Tells whether the lexer makes one token of this kind of its spelling.
 fn is_one_token(alloc: Global, kind: TokenKind) -> bool {
     match lex(alloc, fixed(kind)) {
-        Ok(tokens) => match tokens.as_slice() {
-            [token, end] => token.kind == kind && end.kind == TokenKind::End,
+        Ok(tokens) => match (tokens.get(0), tokens.get(1), tokens.get(2)) {
+            (Some(token), Some(end), None) => token.kind == kind && end.kind == TokenKind::End,
             _ => false,
         },
         Err(_) => false,

@@ -5,7 +5,7 @@ ghost use Rattle.sw_syntax.specs.Lists.{items_from};
 ghost use Rattle.sw_syntax.specs.Meaning.{read};
 ghost use Rattle.sw_syntax.specs.Members.{case_list, payload_list, payload_part};
 ghost use Rattle.sw_syntax.specs.Reading.{Gives, Inside, Moves, Stays};
-ghost use Rattle.sw_syntax.specs.Sights.{token_face};
+ghost use Rattle.sw_syntax.specs.Sights.{lent_face};
 ghost use Rattle.sw_syntax.specs.Symbols as symbol;
 ghost use Rattle.sw_syntax.specs.Values.{name_of};
 
@@ -15,7 +15,7 @@ use crate::nodes;
 use sqlite_items::Items;
 use std::alloc::Global;
 use sw_base::NoMemory;
-use sw_lex::{Token, TokenKind};
+use sw_lex::{TokenKind, TokenRef};
 use sw_parse_expr::type_;
 use sw_syntax::{Opening, Room, Source, Stop, Test, stands, trimmed};
 use sw_tree::{Case, EnumItem, Payload, Type};
@@ -24,8 +24,8 @@ use sw_tree::{Case, EnumItem, Payload, Type};
 type Reading<T> = Result<(T, usize, u8), Stop>;
 
 /// A part of a payload with the label that a token spells.
-fn labelled(token: &Token, declared: Type) -> Result<Payload, NoMemory>
-    ensures { IfOk result (λ x. x ≡ record { label = Some (name_of (token_face token.now)); declared = declared }) }
+fn labelled(token: TokenRef<'_>, declared: Type) -> Result<Payload, NoMemory>
+    ensures { IfOk result (λ x. x ≡ record { label = Some (name_of (lent_face token.entry)); declared = declared }) }
 {
     let label = nodes::name(token)?;
     Ok(Payload {

@@ -3,16 +3,16 @@
 ghost use Rattle.std.specs.Prelude.{◌≡◌, IfOk};
 ghost use Rattle.sw_lex.specs.Tables.{is_same_text};
 ghost use Rattle.sw_syntax.specs.Forms as form;
-ghost use Rattle.sw_syntax.specs.Sights.{token_face};
+ghost use Rattle.sw_syntax.specs.Sights.{lent_face};
 ghost use Rattle.sw_syntax.specs.Values.{name_of};
 
 use sw_base::{Duplicate, NoMemory};
-use sw_lex::{Token, TokenKind};
+use sw_lex::{TokenKind, TokenRef};
 use sw_tree::{Modifier, ModifierKind, Name, ParameterLabel};
 
 /// The name that a token spells.
-pub fn name(token: &Token) -> Result<Name, NoMemory>
-    ensures { IfOk result (λ name. name ≡ name_of (token_face token.now)) }
+pub fn name(token: TokenRef<'_>) -> Result<Name, NoMemory>
+    ensures { IfOk result (λ name. name ≡ name_of (lent_face token.entry)) }
 {
     Ok(Name {
         text: token.text.copy()?,
@@ -56,8 +56,8 @@ fn modifier_kind(kind: TokenKind, text: &[u8]) -> ModifierKind
 }
 
 /// The modifier that a token spells.
-pub fn modifier(token: &Token) -> Modifier
-    ensures { result ≡ form.modifier_of (token_face token.now) }
+pub fn modifier(token: TokenRef<'_>) -> Modifier
+    ensures { result ≡ form.modifier_of (lent_face token.entry) }
 {
     Modifier {
         kind: modifier_kind(token.kind, token.text.as_bytes()),
@@ -66,8 +66,8 @@ pub fn modifier(token: &Token) -> Modifier
 }
 
 /// What the first of two names of a parameter labels its arguments with.
-pub fn label(token: &Token) -> Result<ParameterLabel, NoMemory>
-    ensures { IfOk result (λ label. label ≡ form.label_in token.now.kind (name_of (token_face token.now))) }
+pub fn label(token: TokenRef<'_>) -> Result<ParameterLabel, NoMemory>
+    ensures { IfOk result (λ label. label ≡ form.label_in token.entry.kind (name_of (lent_face token.entry))) }
 {
     match token.kind {
         TokenKind::Underscore => Ok(ParameterLabel::Nothing),

@@ -12,7 +12,7 @@ ghost use Rattle.sw_syntax.specs.Tokens.{sighted};
 
 use crate::files::file;
 use std::alloc::Global;
-use sw_lex::Token;
+use sw_lex::Tokens;
 use sw_refusal::{ROOM, Reader, refusal, refused_at};
 use sw_rules::FrontError;
 use sw_syntax::{Source, Stop};
@@ -36,7 +36,7 @@ impl Reader for Files {
 ///
 /// Tokens that spell none in the room of a source are refused by the first of the rules `P1` to `P6` that
 /// is broken. The only other error is want of memory.
-pub fn parse(alloc: Global, tokens: &[Token]) -> Result<Tree, FrontError>
+pub fn parse(alloc: Global, tokens: &Tokens) -> Result<Tree, FrontError>
     requires ended { EndsOnce tokens.now }
     requires fits { IntegersFit (sighted tokens.now) }
     ensures spelt { IfOk result (λ tree. Spells false symbol.File source_room (sighted tokens.now) tree) }

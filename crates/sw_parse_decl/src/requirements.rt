@@ -16,7 +16,7 @@ use crate::nodes;
 use crate::signatures::signature;
 use sqlite_items::Items;
 use std::alloc::Global;
-use sw_lex::{Token, TokenKind};
+use sw_lex::{TokenKind, TokenRef};
 use sw_parse_expr::type_;
 use sw_syntax::{Opening, Room, Source, Stop, Test, expect_opening, stands};
 use sw_tree::Requirement;
@@ -30,7 +30,7 @@ fn get_block<'a>(
     lenient: bool,
     at: usize,
     room: Room,
-) -> Result<(&'a Token, usize), Stop>
+) -> Result<(TokenRef<'a>, usize), Stop>
     ensures gives { Gives source.now (met room.left result) (get_block lenient room.brackets room.limit room.left (drop at source.now)) }
     ensures moves { Moves at (met 0 result) }
     ensures inside { Inside (length source.now) (met 0 result) }

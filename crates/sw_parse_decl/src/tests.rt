@@ -12,7 +12,7 @@ use rows::ROWS;
 use std::alloc::Global;
 use std::test::Fail;
 use sw_base::Text;
-use sw_lex::{Token, lex};
+use sw_lex::{Tokens, lex};
 use sw_syntax::{Room, Source, Stop};
 use trees::write_tree;
 
@@ -24,7 +24,7 @@ const ROOM: Room = Room {
 };
 
 /// What the tokens of a source are read as: a tree, or the place of the refused token, the first being 0.
-fn read(alloc: Global, tokens: &[Token]) -> Result<Text, Fail>
+fn read(alloc: Global, tokens: &Tokens) -> Result<Text, Fail>
     requires fits { IntegersFit (sighted tokens.now) }
 {
     let source = Source::new(tokens);
@@ -49,7 +49,7 @@ fn read(alloc: Global, tokens: &[Token]) -> Result<Text, Fail>
 /// What becomes of a source, as the rows write it.
 fn answer(alloc: Global, source: &[u8]) -> Result<Text, Fail> {
     match lex(alloc, source) {
-        Ok(tokens) => read(alloc, tokens.as_slice()),
+        Ok(tokens) => read(alloc, &tokens),
         Err(_) => Ok(Text::from_bytes(alloc, b"no tokens")?),
     }
 }

@@ -2,13 +2,13 @@
 
 ghost use Rattle.std.specs.Prelude.{◌≡◌, ◌≤◌, ◌++◌, ◌∷◌, [], IfOk, OnOk, pos, length};
 ghost use Rattle.sw_lex.specs.Rules.{number};
-ghost use Rattle.sw_syntax.specs.Sights.{token_face};
+ghost use Rattle.sw_syntax.specs.Sights.{lent_face};
 ghost use Rattle.sw_syntax.specs.Values as spec;
 
 use sqlite_items::{Boxed, Items};
 use std::alloc::{AllocError, Global};
 use sw_base::{Duplicate, NoMemory, Text};
-use sw_lex::{Token, TokenKind};
+use sw_lex::{TokenKind, TokenRef};
 use sw_tree::{Expr, Literal, StringPiece};
 
 /// A number with one more digit, or with a `_` behind it.
@@ -35,9 +35,9 @@ fn number_of(digits: &[u8]) -> i64
 }
 
 /// The expression of an integer.
-pub fn integer(alloc: Global, token: &Token) -> Result<Expr, AllocError>
-    requires { number 0 token.now.text ≤ 9223372036854775807 }
-    ensures { IfOk result (λ x. x ≡ Expr.Literal token.now.span (spec.integer_of (token_face token.now))) }
+pub fn integer(alloc: Global, token: TokenRef<'_>) -> Result<Expr, AllocError>
+    requires { number 0 token.text.now ≤ 9223372036854775807 }
+    ensures { IfOk result (λ x. x ≡ Expr.Literal token.entry.span (spec.integer_of (lent_face token.entry))) }
 {
     let value = Boxed::new(alloc, integer_value(token))?;
     Ok(Expr::Literal(token.span, value))
@@ -53,54 +53,54 @@ fn is_true(kind: TokenKind) -> bool
 }
 
 /// The expression of `true` or `false`.
-pub fn boolean(alloc: Global, token: &Token) -> Result<Expr, AllocError>
-    ensures { IfOk result (λ x. x ≡ Expr.Literal token.now.span (Literal.Bool (spec.bool_of token.now.kind))) }
+pub fn boolean(alloc: Global, token: TokenRef<'_>) -> Result<Expr, AllocError>
+    ensures { IfOk result (λ x. x ≡ Expr.Literal token.entry.span (Literal.Bool (spec.bool_of token.entry.kind))) }
 {
     let value = Boxed::new(alloc, boolean_value(token))?;
     Ok(Expr::Literal(token.span, value))
 }
 
 /// A string with no expressions.
-pub fn text(alloc: Global, token: &Token) -> Result<Expr, NoMemory>
-    ensures { IfOk result (λ x. x ≡ Expr.Literal token.now.span (Literal.String token.now.text [])) }
+pub fn text(alloc: Global, token: TokenRef<'_>) -> Result<Expr, NoMemory>
+    ensures { IfOk result (λ x. x ≡ Expr.Literal token.entry.span (Literal.String token.entry.text.now [])) }
 {
     string(alloc, token, Items::new(alloc))
 }
 
 /// A string that begins with this token, and the pieces behind it.
-pub fn string(alloc: Global, token: &Token, pieces: Items<StringPiece>) -> Result<Expr, NoMemory>
-    ensures { IfOk result (λ x. x ≡ Expr.Literal token.now.span (Literal.String token.now.text pieces)) }
+pub fn string(alloc: Global, token: TokenRef<'_>, pieces: Items<StringPiece>) -> Result<Expr, NoMemory>
+    ensures { IfOk result (λ x. x ≡ Expr.Literal token.entry.span (Literal.String token.entry.text.now pieces)) }
 {
     let value = string_value(alloc, token, pieces)?;
     Ok(Expr::Literal(token.span, Boxed::new(alloc, value)?))
 }
 
 /// An expression of a string, and the text behind it.
-pub fn piece(value: Expr, token: &Token) -> Result<StringPiece, NoMemory>
-    ensures { IfOk result (λ x. x ≡ record { value = value; text = token.now.text }) }
+pub fn piece(value: Expr, token: TokenRef<'_>) -> Result<StringPiece, NoMemory>
+    ensures { IfOk result (λ x. x ≡ record { value = value; text = token.entry.text.now }) }
 {
     let text = token.text.copy()?;
     Ok(StringPiece { value, text })
 }
 
 /// The value of an integer.
-pub fn integer_value(token: &Token) -> Literal
-    requires { number 0 token.now.text ≤ 9223372036854775807 }
-    ensures { result ≡ spec.integer_of (token_face token.now) }
+pub fn integer_value(token: TokenRef<'_>) -> Literal
+    requires { number 0 token.text.now ≤ 9223372036854775807 }
+    ensures { result ≡ spec.integer_of (lent_face token.entry) }
 {
     Literal::Integer(number_of(token.text.as_bytes()))
 }
 
 /// The value of `true` or `false`.
-pub fn boolean_value(token: &Token) -> Literal
-    ensures { result ≡ Literal.Bool (spec.bool_of token.now.kind) }
+pub fn boolean_value(token: TokenRef<'_>) -> Literal
+    ensures { result ≡ Literal.Bool (spec.bool_of token.entry.kind) }
 {
     Literal::Bool(is_true(token.kind))
 }
 
 /// The value of a string with no expressions.
-pub fn text_value(alloc: Global, token: &Token) -> Result<Literal, NoMemory>
-    ensures { IfOk result (λ x. x ≡ Literal.String token.now.text []) }
+pub fn text_value(alloc: Global, token: TokenRef<'_>) -> Result<Literal, NoMemory>
+    ensures { IfOk result (λ x. x ≡ Literal.String token.entry.text.now []) }
 {
     string_value(alloc, token, Items::new(alloc))
 }
@@ -108,10 +108,10 @@ pub fn text_value(alloc: Global, token: &Token) -> Result<Literal, NoMemory>
 /// The value of a string that begins with this token, with the pieces behind it.
 pub fn string_value(
     alloc: Global,
-    token: &Token,
+    token: TokenRef<'_>,
     pieces: Items<StringPiece>,
 ) -> Result<Literal, NoMemory>
-    ensures { IfOk result (λ x. x ≡ Literal.String token.now.text pieces) }
+    ensures { IfOk result (λ x. x ≡ Literal.String token.entry.text.now pieces) }
 {
     let text = token.text.copy()?;
     let text = Boxed::new(alloc, text)?;

@@ -2,13 +2,13 @@
 
 ghost use Rattle.std.specs.Prelude.{◌≡◌, ◌≤◌, [], ◌∷◌, ◌++◌, IfOk, Some, None, pos};
 ghost use Rattle.sw_lex.specs.Rules.{number};
-ghost use Rattle.sw_syntax.specs.Sights.{token_face};
+ghost use Rattle.sw_syntax.specs.Sights.{lent_face};
 ghost use Rattle.sw_syntax.specs.Values as spec;
 
 use sqlite_items::{Boxed, Items};
 use std::alloc::{AllocError, Global};
 use sw_base::{Duplicate, NoMemory, Span};
-use sw_lex::{Token, TokenKind};
+use sw_lex::{TokenKind, TokenRef};
 use sw_tree::{Argument, BinaryOperator, Expr, Name, PrefixOperator, TryForm};
 
 /// The sign that a token is.
@@ -44,8 +44,8 @@ pub fn binary_operator(kind: TokenKind) -> BinaryOperator
 }
 
 /// The name that a token spells.
-pub fn name(token: &Token) -> Result<Name, NoMemory>
-    ensures { IfOk result (λ name. name ≡ spec.name_of (token_face token.now)) }
+pub fn name(token: TokenRef<'_>) -> Result<Name, NoMemory>
+    ensures { IfOk result (λ name. name ≡ spec.name_of (lent_face token.entry)) }
 {
     Ok(Name {
         text: token.text.copy()?,
@@ -103,24 +103,24 @@ pub fn ternary(alloc: Global, condition: Expr, x: Expr, y: Expr) -> Result<Expr,
 }
 
 /// Two operands and the mark between them.
-pub fn binary(alloc: Global, mark: &Token, left: Expr, right: Expr) -> Result<Expr, AllocError>
-    ensures { IfOk result (λ x. x ≡ Expr.Binary (spec.binary_of mark.now.kind) mark.now.span (left, right)) }
+pub fn binary(alloc: Global, mark: TokenRef<'_>, left: Expr, right: Expr) -> Result<Expr, AllocError>
+    ensures { IfOk result (λ x. x ≡ Expr.Binary (spec.binary_of mark.entry.kind) mark.entry.span (left, right)) }
 {
     let operands = Boxed::new(alloc, (left, right))?;
     Ok(Expr::Binary(binary_operator(mark.kind), mark.span, operands))
 }
 
 /// An operand behind its sign.
-pub fn prefix(alloc: Global, sign: &Token, x: Expr) -> Result<Expr, AllocError>
-    ensures { IfOk result (λ y. y ≡ Expr.Prefix (spec.prefix_of sign.now.kind) sign.now.span x) }
+pub fn prefix(alloc: Global, sign: TokenRef<'_>, x: Expr) -> Result<Expr, AllocError>
+    ensures { IfOk result (λ y. y ≡ Expr.Prefix (spec.prefix_of sign.entry.kind) sign.entry.span x) }
 {
     let x = Boxed::new(alloc, x)?;
     Ok(Expr::Prefix(prefix_operator(sign.kind), sign.span, x))
 }
 
 /// A member of a base, by the token of its name.
-pub fn member(alloc: Global, base: Expr, token: &Token) -> Result<Expr, NoMemory>
-    ensures { IfOk result (λ y. y ≡ Expr.Member base (spec.name_of (token_face token.now))) }
+pub fn member(alloc: Global, base: Expr, token: TokenRef<'_>) -> Result<Expr, NoMemory>
+    ensures { IfOk result (λ y. y ≡ Expr.Member base (spec.name_of (lent_face token.entry))) }
 {
     let member = name(token)?;
     let base = Boxed::new(alloc, base)?;
@@ -170,24 +170,24 @@ pub fn array(alloc: Global, at: Span, elements: Items<Expr>) -> Result<Expr, All
 }
 
 /// The name that a token spells, as an expression.
-pub fn named(alloc: Global, token: &Token) -> Result<Expr, NoMemory>
-    ensures { IfOk result (λ x. x ≡ Expr.Name (spec.name_of (token_face token.now))) }
+pub fn named(alloc: Global, token: TokenRef<'_>) -> Result<Expr, NoMemory>
+    ensures { IfOk result (λ x. x ≡ Expr.Name (spec.name_of (lent_face token.entry))) }
 {
     let name = name(token)?;
     Ok(Expr::Name(Boxed::new(alloc, name)?))
 }
 
 /// The name behind a `.` that has no base.
-pub fn implicit(alloc: Global, at: Span, token: &Token) -> Result<Expr, NoMemory>
-    ensures { IfOk result (λ x. x ≡ Expr.Implicit at (spec.name_of (token_face token.now))) }
+pub fn implicit(alloc: Global, at: Span, token: TokenRef<'_>) -> Result<Expr, NoMemory>
+    ensures { IfOk result (λ x. x ≡ Expr.Implicit at (spec.name_of (lent_face token.entry))) }
 {
     let name = name(token)?;
     Ok(Expr::Implicit(at, Boxed::new(alloc, name)?))
 }
 
 /// A value behind its label.
-pub fn labelled(token: &Token, value: Expr) -> Result<Argument, NoMemory>
-    ensures { IfOk result (λ x. x ≡ record { label = Some (spec.name_of (token_face token.now)); value = value }) }
+pub fn labelled(token: TokenRef<'_>, value: Expr) -> Result<Argument, NoMemory>
+    ensures { IfOk result (λ x. x ≡ record { label = Some (spec.name_of (lent_face token.entry)); value = value }) }
 {
     let label = name(token)?;
     Ok(Argument {

@@ -10,7 +10,7 @@ ghost use Rattle.sw_syntax.specs.Tokens.{sighted};
 
 use crate::expressions::expr;
 use std::alloc::Global;
-use sw_lex::Token;
+use sw_lex::Tokens;
 use sw_refusal::{ROOM, Reader, broken_behind, refusal, refused_at};
 use sw_rules::FrontError;
 use sw_syntax::{Source, Stop};
@@ -35,7 +35,7 @@ impl Reader for Expressions {
 /// It is the longest run of tokens from there that begins an expression, if that run is one and breaks no
 /// rule together with the token behind it. Otherwise it is refused by the first of the rules `P1` to `P6`
 /// that is broken. The only other error is want of memory.
-pub fn parse_expr(alloc: Global, tokens: &[Token], at: usize) -> Result<(Expr, usize), FrontError>
+pub fn parse_expr(alloc: Global, tokens: &Tokens, at: usize) -> Result<(Expr, usize), FrontError>
     requires inside { at < length tokens.now }
     requires ended { EndsOnce tokens.now }
     requires fits { IntegersFit (sighted tokens.now) }

@@ -13,7 +13,7 @@ use rows::ROWS;
 use std::alloc::Global;
 use std::test::Fail;
 use sw_base::Text;
-use sw_lex::{Token, lex};
+use sw_lex::{Tokens, lex};
 use sw_rules::{FrontError, Refusal};
 use sw_tree::{Argument, Expr, Literal, TryForm};
 
@@ -179,7 +179,7 @@ fn shown(alloc: Global, tree: &Expr, end: usize) -> Result<Text, Fail> {
 }
 
 /// What the tokens of a source are read as.
-fn read(alloc: Global, tokens: &[Token]) -> Result<Text, Fail>
+fn read(alloc: Global, tokens: &Tokens) -> Result<Text, Fail>
     requires inside { 0 < length tokens.now }
     requires ended { EndsOnce tokens.now }
     requires fits { IntegersFit (sighted tokens.now) }
@@ -193,7 +193,7 @@ fn read(alloc: Global, tokens: &[Token]) -> Result<Text, Fail>
 /// What becomes of a source, as the rows write it.
 fn answer(alloc: Global, source: &[u8]) -> Result<Text, Fail> {
     match lex(alloc, source) {
-        Ok(tokens) => read(alloc, tokens.as_slice()),
+        Ok(tokens) => read(alloc, &tokens),
         Err(error) => failed(alloc, error),
     }
 }

@@ -1,11 +1,11 @@
 //! What a token says of a statement, and the nodes of statements that need memory.
 
 ghost use Rattle.std.specs.Prelude.{◌≡◌, IfOk};
-ghost use Rattle.sw_syntax.specs.Sights.{token_face};
+ghost use Rattle.sw_syntax.specs.Sights.{lent_face};
 ghost use Rattle.sw_syntax.specs.Values as spec;
 
 use sw_base::{Duplicate, NoMemory};
-use sw_lex::{Token, TokenKind};
+use sw_lex::{TokenKind, TokenRef};
 use sw_tree::{AssignOperator, Binding, Expr, Name, RangeOperator, Stmt, Type};
 
 pub fn binding(kind: TokenKind) -> Binding
@@ -53,8 +53,8 @@ pub fn is_place(x: &Expr) -> bool
 }
 
 /// The name that a token spells.
-pub fn name(token: &Token) -> Result<Name, NoMemory>
-    ensures { IfOk result (λ name. name ≡ spec.name_of (token_face token.now)) }
+pub fn name(token: TokenRef<'_>) -> Result<Name, NoMemory>
+    ensures { IfOk result (λ name. name ≡ spec.name_of (lent_face token.entry)) }
 {
     Ok(Name {
         text: token.text.copy()?,
@@ -64,12 +64,12 @@ pub fn name(token: &Token) -> Result<Name, NoMemory>
 
 /// `let` or `var`, the name behind it, and the type and the value of that.
 pub fn local(
-    mark: &Token,
-    name_token: &Token,
+    mark: TokenRef<'_>,
+    name_token: TokenRef<'_>,
     declared: Option<Type>,
     value: Expr,
 ) -> Result<Stmt, NoMemory>
-    ensures { IfOk result (λ x. x ≡ Stmt.Local mark.now.span (spec.binding_of mark.now.kind) (spec.name_of (token_face name_token.now)) declared value) }
+    ensures { IfOk result (λ x. x ≡ Stmt.Local mark.entry.span (spec.binding_of mark.entry.kind) (spec.name_of (lent_face name_token.entry)) declared value) }
 {
     let name = name(name_token)?;
     Ok(Stmt::Local(mark.span, binding(mark.kind), name, declared, value))

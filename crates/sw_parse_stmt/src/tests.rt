@@ -12,7 +12,7 @@ use rows::ROWS;
 use std::alloc::Global;
 use std::test::Fail;
 use sw_base::Text;
-use sw_lex::{Token, lex};
+use sw_lex::{Tokens, lex};
 use sw_syntax::{Room, Source, Stop};
 use sw_tree::{
     ArmLabel, Binding, Block, Branch, Catch, CatchPattern, Condition, Expr, Literal, Name, Pattern,
@@ -291,7 +291,7 @@ fn write_catch(alloc: Global, text: &mut Text, handler: &Catch) -> Result<(), Fa
 }
 
 /// What the tokens of a source are read as, as the rows write it.
-fn read(alloc: Global, tokens: &[Token]) -> Result<Text, Fail>
+fn read(alloc: Global, tokens: &Tokens) -> Result<Text, Fail>
     requires { IntegersFit (sighted tokens.now) }
 {
     let source = Source::new(tokens);
@@ -312,7 +312,7 @@ fn read(alloc: Global, tokens: &[Token]) -> Result<Text, Fail>
 /// What becomes of a source, as the rows write it.
 fn answer(alloc: Global, source: &[u8]) -> Result<Text, Fail> {
     match lex(alloc, source) {
-        Ok(tokens) => read(alloc, tokens.as_slice()),
+        Ok(tokens) => read(alloc, &tokens),
         Err(_) => Ok(Text::from_bytes(alloc, b"no tokens")?),
     }
 }

@@ -17,7 +17,7 @@ use sw_tree::Tree;
 fn tree_of(alloc: Global, source: &[u8]) -> Result<Tree, FrontError> {
     let tokens = lex(alloc, source)?;
     lexed_integers_fit();
-    parse(alloc, tokens.as_slice())
+    parse(alloc, &tokens)
 }
 
 /// What derived `Debug` writes of a tree, without its places.

@@ -1,11 +1,12 @@
 -- The token at a place is the one behind the run that ends there.
-use Rattle.std.proofs.Common.{◌≡◌, ◌+◌, ◌-◌, ◌⊎◌, inl, inr, ℕ, Bool, true, false, List, [], ◌∷◌, ◌++◌, drop, length, refl, sym, ap, ◌∙◌, arith, length-append, append_assoc}
+use Rattle.std.proofs.Common.{◌≡◌, ◌+◌, ◌-◌, ◌⊎◌, inl, inr, ℕ, zero, suc, Bool, true, false, List, [], ◌∷◌, ◌++◌, Some, slice_get, drop, length, refl, sym, ap, ◌∙◌, arith, length-append, append_assoc}
 use Rattle.std.proofs.lemmas.List.{drop-drop, drop_at}
 use Rattle.sw_lex.specs.declared.token.TokenKind.TheVariants as k
 use Rattle.sw_grammar.specs.Reading.{at_first}
 use Rattle.sw_syntax.specs.Tokens.{Sighted}
 use Rattle.sw_syntax.specs.Tests.{is}
-use Rattle.sw_syntax.specs.Refusals.{EndsIn}
+use Rattle.sw_lex.specs.declared.token.Token.{Token}
+use Rattle.sw_syntax.specs.Refusals.{EndsIn, StandsAt}
 use Rattle.sw_refusal.specs.Reaching.{IsAwaitTry}
 
 pub rest_at : (S : List Sighted) (at place : ℕ) (run rest : List Sighted) → drop at S ≡ run ++ rest → at + length run ≡ place → drop place S ≡ rest
@@ -63,3 +64,10 @@ no_try S at place t run next rest e n h = clash (is k.Try next) h.1 (sym (first_
 
 pub no_run : (S : List Sighted) (at place : ℕ) → place ≡ at → (run : List Sighted) (next : Sighted) (rest : List Sighted) → drop at S ≡ run ++ next ∷ rest → at + length run ≡ place → IsAwaitTry run next → ⊥
 no_run S at place same run next rest e n h = not_empty (is k.Await) S at place run rest next n same h.0
+
+-- ---- the span of a token that is there
+
+pub stands_at : (tokens : List Token) (place : ℕ) (t : Token) → slice_get tokens place ≡ Some t → StandsAt tokens place t.span
+stands_at [] place t h = absurd (cc (h))
+stands_at (first ∷ rest) zero t h = let same : first ≡ t = cc (h) in (first, rest, refl, ap (λ (t : Token). t.span) (sym same))
+stands_at (first ∷ rest) (suc place) t h = stands_at rest place t h

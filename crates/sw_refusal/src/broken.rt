@@ -12,7 +12,7 @@ ghost use Rattle.sw_syntax.specs.Tokens.{sighted};
 use crate::reader::Reader;
 use std::alloc::Global;
 use sw_base::NoMemory;
-use sw_lex::{Token, TokenKind};
+use sw_lex::{TokenKind, Tokens};
 use sw_rules::{FrontError, Refusal, Rule};
 use sw_syntax::{Source, Stop, Test};
 
@@ -110,7 +110,7 @@ fn chained<R: Reader>(
 /// Tells whether the tokens from one place on begin a text up to another, if a line break stands before that.
 fn is_begun_below<R: Reader>(
     alloc: Global,
-    tokens: &[Token],
+    tokens: &Tokens,
     at: usize,
     place: usize,
 ) -> Result<bool, NoMemory>
@@ -131,7 +131,7 @@ fn is_begun_below<R: Reader>(
 /// The rule that the tokens from one place on break first, and its place, where the reader refuses them at another.
 pub fn refused_at<R: Reader>(
     alloc: Global,
-    tokens: &[Token],
+    tokens: &Tokens,
     at: usize,
     place: usize,
     is_full: bool,
@@ -160,7 +160,7 @@ pub fn refused_at<R: Reader>(
 /// The rule that the tokens from one place on break first, if they break one, and its place, where they are a text up to `end`.
 pub fn broken_behind<R: Reader>(
     alloc: Global,
-    tokens: &[Token],
+    tokens: &Tokens,
     at: usize,
     end: usize,
 ) -> Result<Option<(Rule, usize)>, NoMemory>
@@ -183,13 +183,13 @@ pub fn broken_behind<R: Reader>(
 }
 
 /// A refusal by this rule, of the token at this place.
-pub fn refusal(tokens: &[Token], rule: Rule, place: usize) -> FrontError
+pub fn refusal(tokens: &Tokens, rule: Rule, place: usize) -> FrontError
     requires { place < length tokens.now }
     ensures names { Names tokens.now rule place result }
     ensures cause { (s : Symbol) (at : ℕ) → IsFirstBroken s tokens.now at rule place → IsCauseOf s tokens.now at result }
 {
     FrontError::Refused(Refusal {
         rule,
-        span: tokens[place].span,
+        span: tokens.at(place).span,
     })
 }

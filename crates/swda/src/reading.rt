@@ -20,5 +20,5 @@ pub fn read(alloc: Global, source: &[u8]) -> Result<Tree, FrontError>
 {
     let tokens = lex(alloc, source)?;
     lexed_integers_fit();
-    parse(alloc, tokens.as_slice())
+    parse(alloc, &tokens)
 }
