@@ -8,6 +8,7 @@ use sw_base::{Duplicate, NoMemory};
 use sw_lex::{TokenKind, TokenRef};
 use sw_tree::{AssignOperator, Binding, Expr, Name, RangeOperator, Stmt, Type};
 
+/// Whether a name is bound for good, by the token before it.
 pub fn binding(kind: TokenKind) -> Binding
     ensures { result ≡ spec.binding_of kind }
 {
@@ -17,6 +18,7 @@ pub fn binding(kind: TokenKind) -> Binding
     }
 }
 
+/// The mark of an assignment that a token is.
 pub fn assign_operator(kind: TokenKind) -> AssignOperator
     ensures { result ≡ spec.assign_of kind }
 {
@@ -30,6 +32,7 @@ pub fn assign_operator(kind: TokenKind) -> AssignOperator
     }
 }
 
+/// The mark of a range that a token is.
 pub fn range_operator(kind: TokenKind) -> RangeOperator
     ensures { result ≡ spec.range_of kind }
 {

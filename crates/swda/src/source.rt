@@ -18,6 +18,7 @@ fn is_plain(c: u8) -> bool
     c >= b' ' && c <= b'~' && c != b'"' && c != b'\\'
 }
 
+/// Tells whether a text is of the characters that a thin source may have in a string.
 pub fn is_plain_text(text: &[u8]) -> bool
     ensures { IsTrue result ↔ IsPlain text.now }
 {
