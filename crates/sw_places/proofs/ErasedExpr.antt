@@ -32,11 +32,11 @@ erased-Try form at x = ap erase_expr (sym (e.rolls-Try form at x)) ∙ fold-roll
 pub erased-Await : (at : Span) (x : Expr) → erase_expr (e.Await at x) ≡ e.Await nowhere (erase_expr x)
 erased-Await at x = ap erase_expr (sym (e.rolls-Await at x)) ∙ fold-roll-Expr _ _ _ _ _ _ _ _ (Expr-F.Await at x)
 
-pub erased-Ternary : (x y z : Expr) → erase_expr (e.Ternary x y z) ≡ e.Ternary (erase_expr x) (erase_expr y) (erase_expr z)
-erased-Ternary x y z = ap erase_expr (sym (e.rolls-Ternary x y z)) ∙ fold-roll-Expr _ _ _ _ _ _ _ _ (Expr-F.Ternary x y z)
+pub erased-Ternary : (x y z : Expr) → erase_expr (e.Ternary x (y, z)) ≡ e.Ternary (erase_expr x) (erase_expr y, erase_expr z)
+erased-Ternary x y z = ap erase_expr (sym (e.rolls-Ternary x (y, z))) ∙ fold-roll-Expr _ _ _ _ _ _ _ _ (Expr-F.Ternary x (y, z))
 
-pub erased-Binary : (operator : BinaryOperator) (at : Span) (x y : Expr) → erase_expr (e.Binary operator at x y) ≡ e.Binary operator nowhere (erase_expr x) (erase_expr y)
-erased-Binary operator at x y = ap erase_expr (sym (e.rolls-Binary operator at x y)) ∙ fold-roll-Expr _ _ _ _ _ _ _ _ (Expr-F.Binary operator at x y)
+pub erased-Binary : (operator : BinaryOperator) (at : Span) (x y : Expr) → erase_expr (e.Binary operator at (x, y)) ≡ e.Binary operator nowhere (erase_expr x, erase_expr y)
+erased-Binary operator at x y = ap erase_expr (sym (e.rolls-Binary operator at (x, y))) ∙ fold-roll-Expr _ _ _ _ _ _ _ _ (Expr-F.Binary operator at (x, y))
 
 pub erased-Prefix : (operator : PrefixOperator) (at : Span) (x : Expr) → erase_expr (e.Prefix operator at x) ≡ e.Prefix operator nowhere (erase_expr x)
 erased-Prefix operator at x = ap erase_expr (sym (e.rolls-Prefix operator at x)) ∙ fold-roll-Expr _ _ _ _ _ _ _ _ (Expr-F.Prefix operator at x)
@@ -44,8 +44,8 @@ erased-Prefix operator at x = ap erase_expr (sym (e.rolls-Prefix operator at x))
 pub erased-Member : (x : Expr) (name : Name) → erase_expr (e.Member x name) ≡ e.Member (erase_expr x) (erase_name name)
 erased-Member x name = ap erase_expr (sym (e.rolls-Member x name)) ∙ fold-roll-Expr _ _ _ _ _ _ _ _ (Expr-F.Member x name)
 
-pub erased-Index : (x : Expr) (at : Span) (y : Expr) → erase_expr (e.Index x at y) ≡ e.Index (erase_expr x) nowhere (erase_expr y)
-erased-Index x at y = ap erase_expr (sym (e.rolls-Index x at y)) ∙ fold-roll-Expr _ _ _ _ _ _ _ _ (Expr-F.Index x at y)
+pub erased-Index : (x : Expr) (at : Span) (y : Expr) → erase_expr (e.Index x (at, y)) ≡ e.Index (erase_expr x) (nowhere, erase_expr y)
+erased-Index x at y = ap erase_expr (sym (e.rolls-Index x (at, y))) ∙ fold-roll-Expr _ _ _ _ _ _ _ _ (Expr-F.Index x (at, y))
 
 pub erased-Force : (x : Expr) (at : Span) → erase_expr (e.Force x at) ≡ e.Force (erase_expr x) nowhere
 erased-Force x at = ap erase_expr (sym (e.rolls-Force x at)) ∙ fold-roll-Expr _ _ _ _ _ _ _ _ (Expr-F.Force x at)
@@ -68,10 +68,10 @@ erased-Paren at x = ap erase_expr (sym (e.rolls-Paren at x)) ∙ fold-roll-Expr 
 pub erased-Array : (at : Span) (xs : List Expr) → erase_expr (e.Array at xs) ≡ e.Array nowhere (map erase_expr xs)
 erased-Array at xs = ap erase_expr (sym (e.rolls-Array at xs)) ∙ fold-roll-Expr _ _ _ _ _ _ _ _ (Expr-F.Array at xs)
 
-pub erased-Call : (x : Expr) (at : Span) (xs : List Argument) → erase_expr (e.Call x at xs) ≡ e.Call (erase_expr x) nowhere (map erase_argument xs)
+pub erased-Call : (x : Expr) (at : Span) (xs : List Argument) → erase_expr (e.Call x (at, xs)) ≡ e.Call (erase_expr x) (nowhere, map erase_argument xs)
 erased-Call x at xs =
-    ap erase_expr (sym (e.rolls-Call x at xs)) ∙ (fold-roll-Expr _ _ _ _ _ _ _ _ (Expr-F.Call x at xs)
-    ∙ ap (λ ys. e.Call (erase_expr x) nowhere ys) (map_same _ erase_argument (λ x. fold-roll-Argument _ _ _ _ _ _ _ _ (record { label = x.label; value = x.value })) xs))
+    ap erase_expr (sym (e.rolls-Call x (at, xs))) ∙ (fold-roll-Expr _ _ _ _ _ _ _ _ (Expr-F.Call x (at, xs))
+    ∙ ap (λ ys. e.Call (erase_expr x) (nowhere, ys)) (map_same _ erase_argument (λ x. fold-roll-Argument _ _ _ _ _ _ _ _ (record { label = x.label; value = x.value })) xs))
 
 -- ---- literals
 
@@ -118,11 +118,11 @@ rolled layer = ap is_place_layer (out-roll-Expr layer)
 layer_kept : (layer : Expr-F Expr Literal Argument StringPiece) → is_place (erase_expr (roll-Expr layer)) ≡ is_place_layer layer
 layer_kept (Expr-F.Try form at x) = ap is_place (fold-roll-Expr _ _ _ _ _ _ _ _ (Expr-F.Try form at x) ∙ sym (e.rolls-Try form nowhere (erase_expr x))) ∙ rolled (Expr-F.Try form nowhere (erase_expr x))
 layer_kept (Expr-F.Await at x) = ap is_place (fold-roll-Expr _ _ _ _ _ _ _ _ (Expr-F.Await at x) ∙ sym (e.rolls-Await nowhere (erase_expr x))) ∙ rolled (Expr-F.Await nowhere (erase_expr x))
-layer_kept (Expr-F.Ternary x y z) = ap is_place (fold-roll-Expr _ _ _ _ _ _ _ _ (Expr-F.Ternary x y z) ∙ sym (e.rolls-Ternary (erase_expr x) (erase_expr y) (erase_expr z))) ∙ rolled (Expr-F.Ternary (erase_expr x) (erase_expr y) (erase_expr z))
-layer_kept (Expr-F.Binary operator at x y) = ap is_place (fold-roll-Expr _ _ _ _ _ _ _ _ (Expr-F.Binary operator at x y) ∙ sym (e.rolls-Binary operator nowhere (erase_expr x) (erase_expr y))) ∙ rolled (Expr-F.Binary operator nowhere (erase_expr x) (erase_expr y))
+layer_kept (Expr-F.Ternary x (y, z)) = ap is_place (fold-roll-Expr _ _ _ _ _ _ _ _ (Expr-F.Ternary x (y, z)) ∙ sym (e.rolls-Ternary (erase_expr x) (erase_expr y, erase_expr z))) ∙ rolled (Expr-F.Ternary (erase_expr x) (erase_expr y, erase_expr z))
+layer_kept (Expr-F.Binary operator at (x, y)) = ap is_place (fold-roll-Expr _ _ _ _ _ _ _ _ (Expr-F.Binary operator at (x, y)) ∙ sym (e.rolls-Binary operator nowhere (erase_expr x, erase_expr y))) ∙ rolled (Expr-F.Binary operator nowhere (erase_expr x, erase_expr y))
 layer_kept (Expr-F.Prefix operator at x) = ap is_place (fold-roll-Expr _ _ _ _ _ _ _ _ (Expr-F.Prefix operator at x) ∙ sym (e.rolls-Prefix operator nowhere (erase_expr x))) ∙ rolled (Expr-F.Prefix operator nowhere (erase_expr x))
 layer_kept (Expr-F.Member x name) = ap is_place (fold-roll-Expr _ _ _ _ _ _ _ _ (Expr-F.Member x name) ∙ sym (e.rolls-Member (erase_expr x) (erase_name name))) ∙ rolled (Expr-F.Member (erase_expr x) (erase_name name))
-layer_kept (Expr-F.Index x at y) = ap is_place (fold-roll-Expr _ _ _ _ _ _ _ _ (Expr-F.Index x at y) ∙ sym (e.rolls-Index (erase_expr x) nowhere (erase_expr y))) ∙ rolled (Expr-F.Index (erase_expr x) nowhere (erase_expr y))
+layer_kept (Expr-F.Index x (at, y)) = ap is_place (fold-roll-Expr _ _ _ _ _ _ _ _ (Expr-F.Index x (at, y)) ∙ sym (e.rolls-Index (erase_expr x) (nowhere, erase_expr y))) ∙ rolled (Expr-F.Index (erase_expr x) (nowhere, erase_expr y))
 layer_kept (Expr-F.Force x at) = ap is_place (fold-roll-Expr _ _ _ _ _ _ _ _ (Expr-F.Force x at) ∙ sym (e.rolls-Force (erase_expr x) nowhere)) ∙ rolled (Expr-F.Force (erase_expr x) nowhere)
 layer_kept (Expr-F.Nil at) = ap is_place (fold-roll-Expr _ _ _ _ _ _ _ _ (Expr-F.Nil at) ∙ sym (e.rolls-Nil nowhere)) ∙ rolled (Expr-F.Nil nowhere)
 layer_kept (Expr-F.Name name) = ap is_place (fold-roll-Expr _ _ _ _ _ _ _ _ (Expr-F.Name name) ∙ sym (e.rolls-Name (erase_name name))) ∙ rolled (Expr-F.Name (erase_name name))
@@ -130,7 +130,7 @@ layer_kept (Expr-F.SelfValue at) = ap is_place (fold-roll-Expr _ _ _ _ _ _ _ _ (
 layer_kept (Expr-F.Implicit at name) = ap is_place (fold-roll-Expr _ _ _ _ _ _ _ _ (Expr-F.Implicit at name) ∙ sym (e.rolls-Implicit nowhere (erase_name name))) ∙ rolled (Expr-F.Implicit nowhere (erase_name name))
 layer_kept (Expr-F.Paren at x) = ap is_place (fold-roll-Expr _ _ _ _ _ _ _ _ (Expr-F.Paren at x) ∙ sym (e.rolls-Paren nowhere (erase_expr x))) ∙ rolled (Expr-F.Paren nowhere (erase_expr x))
 layer_kept (Expr-F.Array at xs) = ap is_place (fold-roll-Expr _ _ _ _ _ _ _ _ (Expr-F.Array at xs) ∙ sym (e.rolls-Array nowhere (map erase_expr xs))) ∙ rolled (Expr-F.Array nowhere (map erase_expr xs))
-layer_kept (Expr-F.Call x at xs) = ap is_place (fold-roll-Expr _ _ _ _ _ _ _ _ (Expr-F.Call x at xs) ∙ sym (e.rolls-Call (erase_expr x) nowhere _)) ∙ rolled (Expr-F.Call (erase_expr x) nowhere _)
+layer_kept (Expr-F.Call x (at, xs)) = ap is_place (fold-roll-Expr _ _ _ _ _ _ _ _ (Expr-F.Call x (at, xs)) ∙ sym (e.rolls-Call (erase_expr x) (nowhere, _))) ∙ rolled (Expr-F.Call (erase_expr x) (nowhere, _))
 layer_kept (Expr-F.Literal at x) = ap is_place (fold-roll-Expr _ _ _ _ _ _ _ _ (Expr-F.Literal at x) ∙ sym (e.rolls-Literal nowhere _)) ∙ rolled (Expr-F.Literal nowhere _)
 layer_kept (Expr-F.Issue at x) = ap is_place (fold-roll-Expr _ _ _ _ _ _ _ _ (Expr-F.Issue at x) ∙ sym (e.rolls-Issue nowhere (erase_expr x))) ∙ rolled (Expr-F.Issue nowhere (erase_expr x))
 layer_kept (Expr-F.Wait name) = ap is_place (fold-roll-Expr _ _ _ _ _ _ _ _ (Expr-F.Wait name) ∙ sym (e.rolls-Wait (erase_name name))) ∙ rolled (Expr-F.Wait (erase_name name))

@@ -122,7 +122,7 @@ abbrev Operands : Face × ExprTree → Face × ExprTree → Type 0
 Operands v w = NearFace v.0 w.0 × (erase_expr v.1 ≡ erase_expr w.1)
 
 binary_same : (v w : Face × ExprTree) (x y : ExprTree) → Operands v w → erase_expr x ≡ erase_expr y
-    → erase_expr (e.Binary (binary_of v.0.kind) v.0.span x v.1) ≡ erase_expr (e.Binary (binary_of w.0.kind) w.0.span y w.1)
+    → erase_expr (e.Binary (binary_of v.0.kind) v.0.span (x, v.1)) ≡ erase_expr (e.Binary (binary_of w.0.kind) w.0.span (y, w.1))
 binary_same v w x y p h =
     let a = ErasedExpr.erased-Binary (binary_of v.0.kind) v.0.span x v.1 in let b = ErasedExpr.erased-Binary (binary_of w.0.kind) w.0.span y w.1 in
     let c = ap binary_of p.0.0 in let d = p.1 in cc
@@ -132,7 +132,7 @@ left_same [] [] x y p h = h
 left_same [] (w ∷ ws) x y p h = elim p [ ]
 left_same (v ∷ vs) [] x y p h = elim p [ ]
 left_same (v ∷ vs) (w ∷ ws) x y (p, q) h =
-    left_same vs ws (e.Binary (binary_of v.0.kind) v.0.span x v.1) (e.Binary (binary_of w.0.kind) w.0.span y w.1) q (binary_same v w x y p h)
+    left_same vs ws (e.Binary (binary_of v.0.kind) v.0.span (x, v.1)) (e.Binary (binary_of w.0.kind) w.0.span (y, w.1)) q (binary_same v w x y p h)
 
 right_same : (v w : Option (Face × ExprTree)) (x y : ExprTree) → LikeOption Operands v w → erase_expr x ≡ erase_expr y → erase_expr (to_right x v) ≡ erase_expr (to_right y w)
 right_same None None x y p h = h
