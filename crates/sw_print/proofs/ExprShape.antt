@@ -146,22 +146,22 @@ layer_held (Expr-F.Try try_form.Optional at x) = λ g o l rest lead more.
     begin k.Try (fixed k.Try) g o l (plain k.Question gap.Joined ∷ (expr_words x.0 gap.Space ++ rest)) refl refl lead
     (joined k.Question (fixed k.Question) o k.Try (expr_words x.0 gap.Space ++ rest) refl refl (x.1 gap.Space o (Some k.Question) rest (k.Question, refl, refl) more))
 layer_held (Expr-F.Await at x) = begins k.Await (fixed k.Await) (expr_words x.0 gap.Space) refl refl refl (space (expr_words x.0) x.1)
-layer_held (Expr-F.Ternary x y z) =
+layer_held (Expr-F.Ternary x (y, z)) =
     going_on (expr_words x.0) (plain k.Question gap.Space ∷ (expr_words y.0 gap.Space ++ (plain k.Colon gap.Space ∷ expr_words z.0 gap.Space))) x.1
     (cons k.Question (fixed k.Question) (expr_words y.0 gap.Space ++ (plain k.Colon gap.Space ∷ expr_words z.0 gap.Space)) refl refl
     (cat (expr_words y.0 gap.Space) (plain k.Colon gap.Space ∷ expr_words z.0 gap.Space) (space (expr_words y.0) y.1)
     (cons k.Colon (fixed k.Colon) (expr_words z.0 gap.Space) refl refl (space (expr_words z.0) z.1))))
-layer_held (Expr-F.Binary operator at x y) =
+layer_held (Expr-F.Binary operator at (x, y)) =
     going_on (expr_words x.0) (plain (mark_of operator) gap.Space ∷ expr_words y.0 gap.Space) x.1
     (cons (mark_of operator) (fixed (mark_of operator)) (expr_words y.0 gap.Space) (mark_simple operator).0 (mark_simple operator).1 (space (expr_words y.0) y.1))
 layer_held (Expr-F.Prefix prefix.Minus at x) = λ g o l rest lead more.
     begin k.Minus (fixed k.Minus) g o l (expr_words x.0 gap.Joined ++ rest) refl refl lead (x.1 gap.Joined o (Some k.Minus) rest (k.Minus, refl, refl) more)
 layer_held (Expr-F.Prefix prefix.Not at x) = begins k.Bang (fixed k.Bang) (expr_words x.0 gap.Space) refl refl refl (space (expr_words x.0) x.1)
 layer_held (Expr-F.Member x name) = going_on (expr_words x.0) (plain k.Dot gap.Joined ∷ word k.Name name.text gap.Joined ∷ []) x.1 (member_laid (fixed k.Dot) name.text)
-layer_held (Expr-F.Call x at xs) =
+layer_held (Expr-F.Call x (at, xs)) =
     going_on (expr_words x.0) (plain k.LeftParen gap.Joined ∷ (listed (map inner_argument (map (λ x. x.0) xs)) ++ plain k.RightParen gap.Space ∷ [])) x.1
     (call (listed (map inner_argument (map (λ x. x.0) xs))) (listed_laid (map inner_argument (map (λ x. x.0) xs)) (arguments_held xs)))
-layer_held (Expr-F.Index x at y) =
+layer_held (Expr-F.Index x (at, y)) =
     going_on (expr_words x.0) (plain k.LeftBracket gap.Joined ∷ (expr_words y.0 gap.Space ++ plain k.RightBracket gap.Space ∷ [])) x.1
     (touching k.LeftBracket (fixed k.LeftBracket) (expr_words y.0 gap.Space ++ plain k.RightBracket gap.Space ∷ []) refl refl (λ i. (touch_form i).1)
     (cat (expr_words y.0 gap.Space) (plain k.RightBracket gap.Space ∷ []) (space (expr_words y.0) y.1) (cons k.RightBracket (fixed k.RightBracket) [] refl refl none)))

@@ -110,11 +110,11 @@ of_try form span x g = at (ap expr_words (sym (e.rolls-Try form span x)) ∙ fol
 pub of_await : (span : Span) (x : Expr) (g : Gap) → expr_words (e.Await span x) g ≡ plain k.Await g ∷ expr_words x gap.Space
 of_await span x g = at (ap expr_words (sym (e.rolls-Await span x)) ∙ fold-roll-Expr W W W (W × Text) _ _ _ _ (Expr-F.Await span x)) g
 
-pub of_ternary : (x y z : Expr) (g : Gap) → expr_words (e.Ternary x y z) g ≡ expr_words x g ++ (plain k.Question gap.Space ∷ (expr_words y gap.Space ++ (plain k.Colon gap.Space ∷ expr_words z gap.Space)))
-of_ternary x y z g = at (ap expr_words (sym (e.rolls-Ternary x y z)) ∙ fold-roll-Expr W W W (W × Text) _ _ _ _ (Expr-F.Ternary x y z)) g
+pub of_ternary : (x y z : Expr) (g : Gap) → expr_words (e.Ternary x (y, z)) g ≡ expr_words x g ++ (plain k.Question gap.Space ∷ (expr_words y gap.Space ++ (plain k.Colon gap.Space ∷ expr_words z gap.Space)))
+of_ternary x y z g = at (ap expr_words (sym (e.rolls-Ternary x (y, z))) ∙ fold-roll-Expr W W W (W × Text) _ _ _ _ (Expr-F.Ternary x (y, z))) g
 
-pub of_binary : (operator : BinaryOperator) (span : Span) (x y : Expr) (g : Gap) → expr_words (e.Binary operator span x y) g ≡ expr_words x g ++ (plain (mark_of operator) gap.Space ∷ expr_words y gap.Space)
-of_binary operator span x y g = at (ap expr_words (sym (e.rolls-Binary operator span x y)) ∙ fold-roll-Expr W W W (W × Text) _ _ _ _ (Expr-F.Binary operator span x y)) g
+pub of_binary : (operator : BinaryOperator) (span : Span) (x y : Expr) (g : Gap) → expr_words (e.Binary operator span (x, y)) g ≡ expr_words x g ++ (plain (mark_of operator) gap.Space ∷ expr_words y gap.Space)
+of_binary operator span x y g = at (ap expr_words (sym (e.rolls-Binary operator span (x, y))) ∙ fold-roll-Expr W W W (W × Text) _ _ _ _ (Expr-F.Binary operator span (x, y))) g
 
 pub of_prefix : (operator : PrefixOperator) (span : Span) (x : Expr) (g : Gap) → expr_words (e.Prefix operator span x) g ≡ signed operator (expr_words x) g
 of_prefix operator span x g = at (ap expr_words (sym (e.rolls-Prefix operator span x)) ∙ fold-roll-Expr W W W (W × Text) _ _ _ _ (Expr-F.Prefix operator span x)) g
@@ -122,15 +122,15 @@ of_prefix operator span x g = at (ap expr_words (sym (e.rolls-Prefix operator sp
 pub of_member : (x : Expr) (name : Name) (g : Gap) → expr_words (e.Member x name) g ≡ expr_words x g ++ dot_name name gap.Joined
 of_member x name g = at (ap expr_words (sym (e.rolls-Member x name)) ∙ fold-roll-Expr W W W (W × Text) _ _ _ _ (Expr-F.Member x name)) g
 
-of_call_fold : (x : Expr) (span : Span) (xs : List Argument) (g : Gap) → expr_words (e.Call x span xs) g ≡ expr_words x g ++ (plain k.LeftParen gap.Joined ∷ (listed (map argument_fold xs) ++ plain k.RightParen gap.Space ∷ []))
+of_call_fold : (x : Expr) (span : Span) (xs : List Argument) (g : Gap) → expr_words (e.Call x (span, xs)) g ≡ expr_words x g ++ (plain k.LeftParen gap.Joined ∷ (listed (map argument_fold xs) ++ plain k.RightParen gap.Space ∷ []))
 unfolding argument_fold
-of_call_fold x span xs g = at (ap expr_words (sym (e.rolls-Call x span xs)) ∙ fold-roll-Expr W W W (W × Text) _ _ _ _ (Expr-F.Call x span xs)) g
+of_call_fold x span xs g = at (ap expr_words (sym (e.rolls-Call x (span, xs))) ∙ fold-roll-Expr W W W (W × Text) _ _ _ _ (Expr-F.Call x (span, xs))) g
 
-pub of_call : (x : Expr) (span : Span) (xs : List Argument) (g : Gap) → expr_words (e.Call x span xs) g ≡ expr_words x g ++ (plain k.LeftParen gap.Joined ∷ (listed (map argument_words xs) ++ plain k.RightParen gap.Space ∷ []))
+pub of_call : (x : Expr) (span : Span) (xs : List Argument) (g : Gap) → expr_words (e.Call x (span, xs)) g ≡ expr_words x g ++ (plain k.LeftParen gap.Joined ∷ (listed (map argument_words xs) ++ plain k.RightParen gap.Space ∷ []))
 of_call x span xs g = of_call_fold x span xs g ∙ ap (λ ys. expr_words x g ++ (plain k.LeftParen gap.Joined ∷ (listed ys ++ plain k.RightParen gap.Space ∷ []))) (map_alike argument_fold argument_words argument_same xs)
 
-pub of_index : (x : Expr) (span : Span) (y : Expr) (g : Gap) → expr_words (e.Index x span y) g ≡ expr_words x g ++ (plain k.LeftBracket gap.Joined ∷ (expr_words y gap.Space ++ plain k.RightBracket gap.Space ∷ []))
-of_index x span y g = at (ap expr_words (sym (e.rolls-Index x span y)) ∙ fold-roll-Expr W W W (W × Text) _ _ _ _ (Expr-F.Index x span y)) g
+pub of_index : (x : Expr) (span : Span) (y : Expr) (g : Gap) → expr_words (e.Index x (span, y)) g ≡ expr_words x g ++ (plain k.LeftBracket gap.Joined ∷ (expr_words y gap.Space ++ plain k.RightBracket gap.Space ∷ []))
+of_index x span y g = at (ap expr_words (sym (e.rolls-Index x (span, y))) ∙ fold-roll-Expr W W W (W × Text) _ _ _ _ (Expr-F.Index x (span, y))) g
 
 pub of_force : (x : Expr) (span : Span) (g : Gap) → expr_words (e.Force x span) g ≡ expr_words x g ++ plain k.Bang gap.Joined ∷ []
 of_force x span g = at (ap expr_words (sym (e.rolls-Force x span)) ∙ fold-roll-Expr W W W (W × Text) _ _ _ _ (Expr-F.Force x span)) g

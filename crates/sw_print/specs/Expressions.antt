@@ -155,12 +155,12 @@ piece_level x = (x.value, x.text)
 abbrev pub expr_level : Expr-F W W W (W × Text) → W
 expr_level (Expr-F.Try form at x) g = try_words form g ++ x gap.Space
 expr_level (Expr-F.Await at x) g = plain k.Await g ∷ x gap.Space
-expr_level (Expr-F.Ternary x y z) g = x g ++ (plain k.Question gap.Space ∷ (y gap.Space ++ (plain k.Colon gap.Space ∷ z gap.Space)))
-expr_level (Expr-F.Binary operator at x y) g = x g ++ (plain (mark_of operator) gap.Space ∷ y gap.Space)
+expr_level (Expr-F.Ternary x (y, z)) g = x g ++ (plain k.Question gap.Space ∷ (y gap.Space ++ (plain k.Colon gap.Space ∷ z gap.Space)))
+expr_level (Expr-F.Binary operator at (x, y)) g = x g ++ (plain (mark_of operator) gap.Space ∷ y gap.Space)
 expr_level (Expr-F.Prefix operator at x) g = signed operator x g
 expr_level (Expr-F.Member x name) g = x g ++ dot_name name gap.Joined
-expr_level (Expr-F.Call x at xs) g = x g ++ (plain k.LeftParen gap.Joined ∷ (listed xs ++ plain k.RightParen gap.Space ∷ []))
-expr_level (Expr-F.Index x at y) g = x g ++ (plain k.LeftBracket gap.Joined ∷ (y gap.Space ++ plain k.RightBracket gap.Space ∷ []))
+expr_level (Expr-F.Call x (at, xs)) g = x g ++ (plain k.LeftParen gap.Joined ∷ (listed xs ++ plain k.RightParen gap.Space ∷ []))
+expr_level (Expr-F.Index x (at, y)) g = x g ++ (plain k.LeftBracket gap.Joined ∷ (y gap.Space ++ plain k.RightBracket gap.Space ∷ []))
 expr_level (Expr-F.Force x at) g = x g ++ plain k.Bang gap.Joined ∷ []
 expr_level (Expr-F.Literal at value) g = value g
 expr_level (Expr-F.Nil at) g = plain k.Nil g ∷ []

@@ -5,7 +5,7 @@ ghost use Rattle.std.specs.Fmt.{signed_decimal};
 ghost use Rattle.sw_lex.specs.declared.token.TokenKind.TheVariants as TokenKindValue;
 ghost use Rattle.sw_layout.specs.declared.gap.Gap.TheVariants as GapValue;
 ghost use Rattle.sw_layout.specs.Words.{plain, row_text};
-ghost use Rattle.sw_print.specs.Expressions.{word, bool_word, listed, mark_of, try_words, expr_words, literal_words, argument_words};
+ghost use Rattle.sw_print.specs.Expressions.{word, bool_word, listed, mark_of, signed, try_words, expr_words, literal_words, argument_words};
 ghost use Rattle.sw_tree.specs.declared.expr.Literal.TheVariants as LiteralTree;
 
 use crate::names::{write_dot_name, write_label, write_name};
@@ -60,52 +60,38 @@ pub fn write_expr(page: &mut Page, x: &Expr, before: Gap) -> Result<(), NoMemory
             write_expr(page, operand.get(), Gap::Space)
         }
         Expr::Await(_, operand) => write_behind(page, TokenKind::Await, before, operand.get()),
-        Expr::Ternary(condition, one, other) => {
+        Expr::Ternary(condition, both) => {
             write_expr(page, condition.get(), before)?;
-            write_behind(page, TokenKind::Question, Gap::Space, one.get())?;
-            write_behind(page, TokenKind::Colon, Gap::Space, other.get())
+            write_branches(page, both.get())
         }
-        Expr::Binary(operator, _, left, right) => {
-            write_expr(page, left.get(), before)?;
-            write_behind(page, mark_of(*operator), Gap::Space, right.get())
-        }
-        Expr::Prefix(PrefixOperator::Minus, _, operand) => {
-            page.plain(TokenKind::Minus, before)?;
-            write_expr(page, operand.get(), Gap::Joined)
-        }
-        Expr::Prefix(PrefixOperator::Not, _, operand) => {
-            write_behind(page, TokenKind::Bang, before, operand.get())
-        }
+        Expr::Binary(operator, _, both) => write_binary(page, *operator, both.get(), before),
+        Expr::Prefix(operator, _, operand) => write_signed(page, *operator, operand.get(), before),
         Expr::Member(base, name) => {
             write_expr(page, base.get(), before)?;
-            write_dot_name(page, name, Gap::Joined)
+            write_dot_name(page, name.get(), Gap::Joined)
         }
-        Expr::Call(callee, _, arguments) => {
+        Expr::Call(callee, list) => {
             write_expr(page, callee.get(), before)?;
             page.plain(TokenKind::LeftParen, Gap::Joined)?;
-            write_arguments(page, arguments.as_slice())?;
+            write_arguments(page, list.get().1.as_slice())?;
             page.plain(TokenKind::RightParen, Gap::Space)
         }
-        Expr::Index(base, _, index) => {
+        Expr::Index(base, index) => {
             write_expr(page, base.get(), before)?;
-            write_behind(page, TokenKind::LeftBracket, Gap::Joined, index.get())?;
+            write_behind(page, TokenKind::LeftBracket, Gap::Joined, &index.get().1)?;
             page.plain(TokenKind::RightBracket, Gap::Space)
         }
         Expr::Force(operand, _) => {
             write_expr(page, operand.get(), before)?;
             page.plain(TokenKind::Bang, Gap::Joined)
         }
-        Expr::Literal(_, value) => write_literal(page, value, before),
+        Expr::Literal(_, value) => write_literal(page, value.get(), before),
         Expr::Nil(_) => page.plain(TokenKind::Nil, before),
-        Expr::Name(name) | Expr::Wait(name) => write_name(page, name, before),
+        Expr::Name(name) | Expr::Wait(name) => write_name(page, name.get(), before),
         Expr::SelfValue(_) => page.plain(TokenKind::Self_, before),
-        Expr::Implicit(_, name) => write_dot_name(page, name, before),
+        Expr::Implicit(_, name) => write_dot_name(page, name.get(), before),
         Expr::Paren(_, inner) => write_paren(page, inner.get(), before),
-        Expr::Array(_, elements) => {
-            page.plain(TokenKind::LeftBracket, before)?;
-            write_elements(page, elements.as_slice())?;
-            page.plain(TokenKind::RightBracket, Gap::Space)
-        }
+        Expr::Array(_, elements) => write_array(page, elements.get().as_slice(), before),
         Expr::Issue(_, call) => write_expr(page, call.get(), before),
     }
 }
@@ -120,6 +106,53 @@ fn write_behind(page: &mut Page, kind: TokenKind, before: Gap, x: &Expr) -> Resu
     write_expr(page, x, Gap::Space)
 }
 
+/// Writes the branches of a ternary, each behind its mark.
+#[cycle(expr)]
+#[tactic(auto, using(crate::proofs::Rows::row_rules))]
+fn write_branches(page: &mut Page, both: &(Expr, Expr)) -> Result<(), NoMemory>
+    ensures { OnOk result (page.new ≡ page.old
+        ++ row_text (plain TokenKindValue.Question GapValue.Space ∷ (expr_words both.now.0 GapValue.Space ++ (plain TokenKindValue.Colon GapValue.Space ∷ expr_words both.now.1 GapValue.Space)))) }
+{
+    write_behind(page, TokenKind::Question, Gap::Space, &both.0)?;
+    write_behind(page, TokenKind::Colon, Gap::Space, &both.1)
+}
+
+/// Writes an operator between its operands.
+#[cycle(expr)]
+#[tactic(auto, using(crate::proofs::Rows::row_rules))]
+fn write_binary(
+    page: &mut Page,
+    operator: BinaryOperator,
+    both: &(Expr, Expr),
+    before: Gap,
+) -> Result<(), NoMemory>
+    ensures { OnOk result (page.new ≡ page.old ++ row_text (expr_words both.now.0 before ++ (plain (mark_of operator) GapValue.Space ∷ expr_words both.now.1 GapValue.Space))) }
+{
+    let (left, right) = both;
+    write_expr(page, left, before)?;
+    write_behind(page, mark_of(operator), Gap::Space, right)
+}
+
+/// Writes a sign and its operand.
+#[cycle(expr)]
+#[tactic(auto, using(crate::proofs::Rows::row_rules))]
+fn write_signed(
+    page: &mut Page,
+    operator: PrefixOperator,
+    x: &Expr,
+    before: Gap,
+) -> Result<(), NoMemory>
+    ensures { OnOk result (page.new ≡ page.old ++ row_text (signed operator (expr_words x.now) before)) }
+{
+    match operator {
+        PrefixOperator::Minus => {
+            page.plain(TokenKind::Minus, before)?;
+            write_expr(page, x, Gap::Joined)
+        }
+        PrefixOperator::Not => write_behind(page, TokenKind::Bang, before, x),
+    }
+}
+
 /// Writes an expression in brackets.
 #[cycle(expr)]
 #[tactic(auto, using(crate::proofs::Rows::row_rules))]
@@ -129,6 +162,18 @@ fn write_paren(page: &mut Page, x: &Expr, before: Gap) -> Result<(), NoMemory>
 {
     write_behind(page, TokenKind::LeftParen, before, x)?;
     page.plain(TokenKind::RightParen, Gap::Space)
+}
+
+/// Writes an array.
+#[cycle(expr)]
+#[tactic(auto, using(crate::proofs::Rows::row_rules))]
+fn write_array(page: &mut Page, elements: &[Expr], before: Gap) -> Result<(), NoMemory>
+    ensures { OnOk result (page.new ≡ page.old
+        ++ row_text (plain TokenKindValue.LeftBracket before ∷ (listed (map expr_words elements.now) ++ plain TokenKindValue.RightBracket GapValue.Space ∷ []))) }
+{
+    page.plain(TokenKind::LeftBracket, before)?;
+    write_elements(page, elements)?;
+    page.plain(TokenKind::RightBracket, Gap::Space)
 }
 
 /// Writes the elements of an array.
@@ -211,7 +256,7 @@ pub fn write_literal(page: &mut Page, literal: &Literal, before: Gap) -> Result<
         Literal::Integer(n) => write_integer(page, *n, before),
         Literal::Bool(value) => write_bool(page, *value, before),
         Literal::String(text, pieces) => {
-            write_string(page, text.as_bytes(), pieces.as_slice(), before)
+            write_string(page, text.get().as_bytes(), pieces.get().as_slice(), before)
         }
     }
 }

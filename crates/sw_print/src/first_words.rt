@@ -15,11 +15,11 @@ fn begins_with_dot(x: &Expr) -> bool
 {
     match x {
         Expr::Implicit(..) => true,
-        Expr::Ternary(left, _, _)
-        | Expr::Binary(_, _, left, _)
+        Expr::Binary(_, _, operands) => begins_with_dot(&operands.get().0),
+        Expr::Ternary(left, _)
         | Expr::Member(left, _)
-        | Expr::Call(left, _, _)
-        | Expr::Index(left, _, _)
+        | Expr::Call(left, _)
+        | Expr::Index(left, _)
         | Expr::Force(left, _)
         | Expr::Issue(_, left) => begins_with_dot(left.get()),
         Expr::Try(..)

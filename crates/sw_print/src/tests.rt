@@ -43,7 +43,7 @@ fn print_hi(alloc: Global) -> Result<Expr, Fail> {
 fn signs(alloc: Global) -> Result<Expr, Fail> {
     let x = variable(alloc, b"x")?;
     let x = signed(alloc, PrefixOperator::Minus, x)?;
-    let x = binary(alloc, BinaryOperator::Add, x, integer(-5))?;
+    let x = binary(alloc, BinaryOperator::Add, x, integer(alloc, -5)?)?;
     let x = paren(alloc, x)?;
     signed(alloc, PrefixOperator::Not, x)
 }
@@ -52,7 +52,7 @@ fn signs(alloc: Global) -> Result<Expr, Fail> {
 fn suffixes(alloc: Global) -> Result<Expr, Fail> {
     let x = variable(alloc, b"a")?;
     let x = member(alloc, x, b"b")?;
-    let x = element(alloc, x, integer(0))?;
+    let x = element(alloc, x, integer(alloc, 0)?)?;
     let x = forced(alloc, x)?;
     let x = awaited(alloc, x)?;
     tried(alloc, x)

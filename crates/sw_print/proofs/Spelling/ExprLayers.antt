@@ -56,10 +56,10 @@ module _ (A A' A'' A3 : Type 0) (step : Expr-F A A' A'' A3 → A) (step' : Liter
   folded_pieces : (xs : List StringPiece) → map (fold-StringPiece A A' A'' A3 step step' step'' step3) xs ≡ map (λ x. step3 (record { value = fold-Expr A A' A'' A3 step step' step'' step3 x.value; text = x.text })) xs
   folded_pieces = same_map _ _ folded_piece
 
-  folded_call : (x : Expr) (place : Span) (xs : List Argument) → fold-Expr A A' A'' A3 step step' step'' step3 (e.Call x place xs)
-      ≡ step (Expr-F.Call (fold-Expr A A' A'' A3 step step' step'' step3 x) place (map (λ x. step'' (record { label = x.label; value = fold-Expr A A' A'' A3 step step' step'' step3 x.value })) xs))
-  folded_call x place xs = ap (fold-Expr A A' A'' A3 step step' step'' step3) (sym (e.rolls-Call x place xs)) ∙ fold-roll-Expr A A' A'' A3 step step' step'' step3 (Expr-F.Call x place xs)
-      ∙ ap (λ ys. step (Expr-F.Call (fold-Expr A A' A'' A3 step step' step'' step3 x) place ys)) (folded_arguments xs)
+  folded_call : (x : Expr) (place : Span) (xs : List Argument) → fold-Expr A A' A'' A3 step step' step'' step3 (e.Call x (place, xs))
+      ≡ step (Expr-F.Call (fold-Expr A A' A'' A3 step step' step'' step3 x) (place, map (λ x. step'' (record { label = x.label; value = fold-Expr A A' A'' A3 step step' step'' step3 x.value })) xs))
+  folded_call x place xs = ap (fold-Expr A A' A'' A3 step step' step'' step3) (sym (e.rolls-Call x (place, xs))) ∙ fold-roll-Expr A A' A'' A3 step step' step'' step3 (Expr-F.Call x (place, xs))
+      ∙ ap (λ ys. step (Expr-F.Call (fold-Expr A A' A'' A3 step step' step'' step3 x) (place, ys))) (folded_arguments xs)
 
   folded_literal : (place : Span) (x : Literal) → fold-Expr A A' A'' A3 step step' step'' step3 (e.Literal place x) ≡ step (Expr-F.Literal place (fold-Literal A A' A'' A3 step step' step'' step3 x))
   folded_literal place x = ap (fold-Expr A A' A'' A3 step step' step'' step3) (sym (e.rolls-Literal place x)) ∙ fold-roll-Expr A A' A'' A3 step step' step'' step3 (Expr-F.Literal place x)
@@ -82,7 +82,7 @@ words_literal place x g = at (folded_literal _ _ _ _ _ _ _ _ place x) g ∙ sym 
 abbrev pub piece_words : StringPiece → W × Text
 piece_words x = (expr_words x.value, x.text)
 
-pub words_call : (x : Expr) (place : Span) (xs : List Argument) (g : Gap) → expr_words (e.Call x place xs) g ≡ expr_words x g ++ (plain k.LeftParen gap.Joined ∷ (listed (map argument_words xs) ++ plain k.RightParen gap.Space ∷ []))
+pub words_call : (x : Expr) (place : Span) (xs : List Argument) (g : Gap) → expr_words (e.Call x (place, xs)) g ≡ expr_words x g ++ (plain k.LeftParen gap.Joined ∷ (listed (map argument_words xs) ++ plain k.RightParen gap.Space ∷ []))
 words_call x place xs g = at (folded_call _ _ _ _ _ _ _ _ x place xs) g
 
 pub words_integer : (place : Span) (n : ℤ) (g : Gap) → expr_words (e.Literal place (lit.Integer n)) g ≡ word k.Integer (signed_decimal n) g ∷ []
@@ -97,11 +97,11 @@ words_string place text xs g = at (folded_literal _ _ _ _ _ _ _ _ place (lit.Str
 pub words_await : (place : Span) (x : Expr) (g : Gap) → expr_words (e.Await place x) g ≡ plain k.Await g ∷ expr_words x gap.Space
 words_await place x g = at (ap expr_words (sym (e.rolls-Await place x)) ∙ fold-roll-Expr W W W (W × Text) _ _ _ _ (Expr-F.Await place x)) g
 
-pub words_ternary : (x y z : Expr) (g : Gap) → expr_words (e.Ternary x y z) g ≡ expr_words x g ++ (plain k.Question gap.Space ∷ (expr_words y gap.Space ++ (plain k.Colon gap.Space ∷ expr_words z gap.Space)))
-words_ternary x y z g = at (ap expr_words (sym (e.rolls-Ternary x y z)) ∙ fold-roll-Expr W W W (W × Text) _ _ _ _ (Expr-F.Ternary x y z)) g
+pub words_ternary : (x y z : Expr) (g : Gap) → expr_words (e.Ternary x (y, z)) g ≡ expr_words x g ++ (plain k.Question gap.Space ∷ (expr_words y gap.Space ++ (plain k.Colon gap.Space ∷ expr_words z gap.Space)))
+words_ternary x y z g = at (ap expr_words (sym (e.rolls-Ternary x (y, z))) ∙ fold-roll-Expr W W W (W × Text) _ _ _ _ (Expr-F.Ternary x (y, z))) g
 
-pub words_binary : (operator : BinaryOperator) (place : Span) (x y : Expr) (g : Gap) → expr_words (e.Binary operator place x y) g ≡ expr_words x g ++ (plain (mark_of operator) gap.Space ∷ expr_words y gap.Space)
-words_binary operator place x y g = at (ap expr_words (sym (e.rolls-Binary operator place x y)) ∙ fold-roll-Expr W W W (W × Text) _ _ _ _ (Expr-F.Binary operator place x y)) g
+pub words_binary : (operator : BinaryOperator) (place : Span) (x y : Expr) (g : Gap) → expr_words (e.Binary operator place (x, y)) g ≡ expr_words x g ++ (plain (mark_of operator) gap.Space ∷ expr_words y gap.Space)
+words_binary operator place x y g = at (ap expr_words (sym (e.rolls-Binary operator place (x, y))) ∙ fold-roll-Expr W W W (W × Text) _ _ _ _ (Expr-F.Binary operator place (x, y))) g
 
 pub words_prefix : (operator : PrefixOperator) (place : Span) (x : Expr) (g : Gap) → expr_words (e.Prefix operator place x) g ≡ signed operator (expr_words x) g
 words_prefix operator place x g = at (ap expr_words (sym (e.rolls-Prefix operator place x)) ∙ fold-roll-Expr W W W (W × Text) _ _ _ _ (Expr-F.Prefix operator place x)) g
@@ -109,8 +109,8 @@ words_prefix operator place x g = at (ap expr_words (sym (e.rolls-Prefix operato
 pub words_member : (x : Expr) (name : Name) (g : Gap) → expr_words (e.Member x name) g ≡ expr_words x g ++ dot_name name gap.Joined
 words_member x name g = at (ap expr_words (sym (e.rolls-Member x name)) ∙ fold-roll-Expr W W W (W × Text) _ _ _ _ (Expr-F.Member x name)) g
 
-pub words_index : (x : Expr) (place : Span) (y : Expr) (g : Gap) → expr_words (e.Index x place y) g ≡ expr_words x g ++ (plain k.LeftBracket gap.Joined ∷ (expr_words y gap.Space ++ plain k.RightBracket gap.Space ∷ []))
-words_index x place y g = at (ap expr_words (sym (e.rolls-Index x place y)) ∙ fold-roll-Expr W W W (W × Text) _ _ _ _ (Expr-F.Index x place y)) g
+pub words_index : (x : Expr) (place : Span) (y : Expr) (g : Gap) → expr_words (e.Index x (place, y)) g ≡ expr_words x g ++ (plain k.LeftBracket gap.Joined ∷ (expr_words y gap.Space ++ plain k.RightBracket gap.Space ∷ []))
+words_index x place y g = at (ap expr_words (sym (e.rolls-Index x (place, y))) ∙ fold-roll-Expr W W W (W × Text) _ _ _ _ (Expr-F.Index x (place, y))) g
 
 pub words_force : (x : Expr) (place : Span) (g : Gap) → expr_words (e.Force x place) g ≡ expr_words x g ++ plain k.Bang gap.Joined ∷ []
 words_force x place g = at (ap expr_words (sym (e.rolls-Force x place)) ∙ fold-roll-Expr W W W (W × Text) _ _ _ _ (Expr-F.Force x place)) g

@@ -148,13 +148,13 @@ unfolding same_kind
 layer_unbraced (Expr-F.Try try_form.Plain at x) g = (refl, unbraced_start (expr_words x.0 gap.Space) (x.1 gap.Space))
 layer_unbraced (Expr-F.Try try_form.Optional at x) g = (refl, refl)
 layer_unbraced (Expr-F.Await at x) g = (refl, unbraced_start (expr_words x.0 gap.Space) (x.1 gap.Space))
-layer_unbraced (Expr-F.Ternary x y z) g = unbraced_append (expr_words x.0 g) _ (x.1 g) refl
-layer_unbraced (Expr-F.Binary operator at x y) g = unbraced_append (expr_words x.0 g) (plain (mark_of operator) gap.Space ∷ expr_words y.0 gap.Space) (x.1 g) (mark_unbraced operator)
+layer_unbraced (Expr-F.Ternary x (y, z)) g = unbraced_append (expr_words x.0 g) _ (x.1 g) refl
+layer_unbraced (Expr-F.Binary operator at (x, y)) g = unbraced_append (expr_words x.0 g) (plain (mark_of operator) gap.Space ∷ expr_words y.0 gap.Space) (x.1 g) (mark_unbraced operator)
 layer_unbraced (Expr-F.Prefix prefix.Minus at x) g = (refl, unbraced_start (expr_words x.0 gap.Joined) (x.1 gap.Joined))
 layer_unbraced (Expr-F.Prefix prefix.Not at x) g = (refl, unbraced_start (expr_words x.0 gap.Space) (x.1 gap.Space))
 layer_unbraced (Expr-F.Member x name) g = unbraced_append (expr_words x.0 g) _ (x.1 g) refl
-layer_unbraced (Expr-F.Call x at xs) g = unbraced_append (expr_words x.0 g) _ (x.1 g) refl
-layer_unbraced (Expr-F.Index x at y) g = unbraced_append (expr_words x.0 g) _ (x.1 g) refl
+layer_unbraced (Expr-F.Call x (at, xs)) g = unbraced_append (expr_words x.0 g) _ (x.1 g) refl
+layer_unbraced (Expr-F.Index x (at, y)) g = unbraced_append (expr_words x.0 g) _ (x.1 g) refl
 layer_unbraced (Expr-F.Force x at) g = unbraced_append (expr_words x.0 g) _ (x.1 g) refl
 layer_unbraced (Expr-F.Literal at value) g = value.1 g
 layer_unbraced (Expr-F.Nil at) g = (refl, tt)

@@ -56,7 +56,7 @@ pairs_words (pair ∷ pairs) = pair_words pair ++ pairs_words pairs
 words_lefts : (x : ExprTree) (pairs : List (Face × ExprTree)) (g : Gap) → expr_words (to_left x pairs) g ≡ expr_words x g ++ pairs_words pairs
 words_lefts x [] g = sym (append-nil (expr_words x g))
 words_lefts x (pair ∷ pairs) g =
-    words_lefts (node.Binary (binary_of pair.0.kind) pair.0.span x pair.1) pairs g ∙ ap (λ v. v ++ pairs_words pairs) (words_binary (binary_of pair.0.kind) pair.0.span x pair.1 g)
+    words_lefts (node.Binary (binary_of pair.0.kind) pair.0.span (x, pair.1)) pairs g ∙ ap (λ v. v ++ pairs_words pairs) (words_binary (binary_of pair.0.kind) pair.0.span x pair.1 g)
     ∙ append_assoc (expr_words x g) (pair_words pair) (pairs_words pairs)
 
 module _ (D : (s : Symbol) → ℕ → ℕ → ℕ → ℕ → List Sighted → Sort s → Type 0) (B : (s : Symbol) → ℕ → ℕ → ℕ → ℕ → Sort s → Type 0) where

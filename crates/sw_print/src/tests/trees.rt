@@ -40,26 +40,35 @@ fn boxed(alloc: Global, x: Expr) -> Result<Boxed<Expr>, Fail> {
 /// A name that stands alone.
 pub fn variable(alloc: Global, bytes: &[u8]) -> Result<Expr, Fail> {
     let name = name(alloc, bytes)?;
-    Ok(Expr::Name(name))
+    Ok(Expr::Name(Boxed::new(alloc, name)?))
+}
+
+fn literal(alloc: Global, value: Literal) -> Result<Expr, Fail> {
+    Ok(Expr::Literal(NOWHERE, Boxed::new(alloc, value)?))
 }
 
 /// An integer.
-pub fn integer(n: i64) -> Expr {
-    Expr::Literal(NOWHERE, Literal::Integer(n))
+pub fn integer(alloc: Global, n: i64) -> Result<Expr, Fail> {
+    literal(alloc, Literal::Integer(n))
+}
+
+fn with_pieces(alloc: Global, front: &[u8], pieces: Items<StringPiece>) -> Result<Expr, Fail> {
+    let text = Text::from_bytes(alloc, front)?;
+    let text = Boxed::new(alloc, text)?;
+    let pieces = Boxed::new(alloc, pieces)?;
+    literal(alloc, Literal::String(text, pieces))
 }
 
 /// A string in which no expression stands.
 pub fn string(alloc: Global, bytes: &[u8]) -> Result<Expr, Fail> {
-    let text = Text::from_bytes(alloc, bytes)?;
-    Ok(Expr::Literal(NOWHERE, Literal::String(text, Items::new(alloc))))
+    with_pieces(alloc, bytes, Items::new(alloc))
 }
 
 /// A string with one expression in it.
 pub fn with_piece(alloc: Global, front: &[u8], value: Expr, rest: &[u8]) -> Result<Expr, Fail> {
     let text = Text::from_bytes(alloc, rest)?;
     let pieces = one(alloc, StringPiece { value, text })?;
-    let text = Text::from_bytes(alloc, front)?;
-    Ok(Expr::Literal(NOWHERE, Literal::String(text, pieces)))
+    with_pieces(alloc, front, pieces)
 }
 
 /// A sign and its operand.
@@ -75,9 +84,8 @@ pub fn binary(
     left: Expr,
     right: Expr,
 ) -> Result<Expr, Fail> {
-    let left = boxed(alloc, left)?;
-    let right = boxed(alloc, right)?;
-    Ok(Expr::Binary(operator, NOWHERE, left, right))
+    let operands = Boxed::new(alloc, (left, right))?;
+    Ok(Expr::Binary(operator, NOWHERE, operands))
 }
 
 /// `(x)`
@@ -90,14 +98,13 @@ pub fn paren(alloc: Global, x: Expr) -> Result<Expr, Fail> {
 pub fn member(alloc: Global, x: Expr, own: &[u8]) -> Result<Expr, Fail> {
     let x = boxed(alloc, x)?;
     let own = name(alloc, own)?;
-    Ok(Expr::Member(x, own))
+    Ok(Expr::Member(x, Boxed::new(alloc, own)?))
 }
 
 /// `x[at]`
 pub fn element(alloc: Global, x: Expr, at: Expr) -> Result<Expr, Fail> {
     let x = boxed(alloc, x)?;
-    let at = boxed(alloc, at)?;
-    Ok(Expr::Index(x, NOWHERE, at))
+    Ok(Expr::Index(x, Boxed::new(alloc, (NOWHERE, at))?))
 }
 
 /// `x!`
@@ -121,7 +128,7 @@ pub fn tried(alloc: Global, x: Expr) -> Result<Expr, Fail> {
 /// `.own`
 pub fn dot_name(alloc: Global, own: &[u8]) -> Result<Expr, Fail> {
     let own = name(alloc, own)?;
-    Ok(Expr::Implicit(NOWHERE, own))
+    Ok(Expr::Implicit(NOWHERE, Boxed::new(alloc, own)?))
 }
 
 /// An argument without a label, alone.
@@ -133,7 +140,7 @@ pub fn one_argument(alloc: Global, value: Expr) -> Result<Items<Argument>, Fail>
 /// `callee(arguments)`
 pub fn call(alloc: Global, callee: Expr, arguments: Items<Argument>) -> Result<Expr, Fail> {
     let callee = boxed(alloc, callee)?;
-    Ok(Expr::Call(callee, NOWHERE, arguments))
+    Ok(Expr::Call(callee, Boxed::new(alloc, (NOWHERE, arguments))?))
 }
 
 fn branch(alloc: Global, tested: &[u8]) -> Result<Branch, Fail> {
