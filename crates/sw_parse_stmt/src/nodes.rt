@@ -50,7 +50,7 @@ pub fn is_place(x: &Expr) -> bool
         Expr::Name(_) => true,
         Expr::Implicit(_, _) => true,
         Expr::Member(_, _) => true,
-        Expr::Index(_, _, _) => true,
+        Expr::Index(_, _) => true,
         _ => false,
     }
 }

@@ -32,15 +32,15 @@ fn put(text: &mut Text, bytes: &[u8]) -> Result<(), Fail> {
 /// Writes an expression, as far as the rows have any.
 fn write_expr(alloc: Global, text: &mut Text, tree: &Expr) -> Result<(), Fail> {
     match tree {
-        Expr::Name(name) => put(text, name.text.as_bytes()),
+        Expr::Name(name) => put(text, name.get().text.as_bytes()),
         Expr::Implicit(_, name) => {
             put(text, b".")?;
-            put(text, name.text.as_bytes())
+            put(text, name.get().text.as_bytes())
         }
         Expr::Member(base, name) => {
             write_expr(alloc, text, base.get())?;
             put(text, b".")?;
-            put(text, name.text.as_bytes())
+            put(text, name.get().text.as_bytes())
         }
         Expr::Prefix(operator, _, x) => {
             let name = format!(in alloc; "({operator:?} ")?;
@@ -48,12 +48,13 @@ fn write_expr(alloc: Global, text: &mut Text, tree: &Expr) -> Result<(), Fail> {
             write_expr(alloc, text, x.get())?;
             put(text, b")")
         }
-        Expr::Binary(operator, _, x, y) => {
+        Expr::Binary(operator, _, operands) => {
+            let (x, y) = operands.get();
             let name = format!(in alloc; "({operator:?} ")?;
             put(text, name.as_bytes())?;
-            write_expr(alloc, text, x.get())?;
+            write_expr(alloc, text, x)?;
             put(text, b" ")?;
-            write_expr(alloc, text, y.get())?;
+            write_expr(alloc, text, y)?;
             put(text, b")")
         }
         _ => put(text, b"other"),
