@@ -68,7 +68,11 @@ pub fn text(alloc: Global, token: TokenRef<'_>) -> Result<Expr, NoMemory>
 }
 
 /// A string that begins with this token, and the pieces behind it.
-pub fn string(alloc: Global, token: TokenRef<'_>, pieces: Items<StringPiece>) -> Result<Expr, NoMemory>
+pub fn string(
+    alloc: Global,
+    token: TokenRef<'_>,
+    pieces: Items<StringPiece>,
+) -> Result<Expr, NoMemory>
     ensures { IfOk result (λ x. x ≡ Expr.Literal token.entry.span (Literal.String token.entry.text.now pieces)) }
 {
     let value = string_value(alloc, token, pieces)?;

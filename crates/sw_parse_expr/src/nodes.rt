@@ -103,7 +103,12 @@ pub fn ternary(alloc: Global, condition: Expr, x: Expr, y: Expr) -> Result<Expr,
 }
 
 /// Two operands and the mark between them.
-pub fn binary(alloc: Global, mark: TokenRef<'_>, left: Expr, right: Expr) -> Result<Expr, AllocError>
+pub fn binary(
+    alloc: Global,
+    mark: TokenRef<'_>,
+    left: Expr,
+    right: Expr,
+) -> Result<Expr, AllocError>
     ensures { IfOk result (λ x. x ≡ Expr.Binary (spec.binary_of mark.entry.kind) mark.entry.span (left, right)) }
 {
     let operands = Boxed::new(alloc, (left, right))?;

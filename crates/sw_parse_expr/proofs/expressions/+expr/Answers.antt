@@ -357,7 +357,7 @@ string-returns-in_err-x-clause-gives t c =
 
 pub string-pieces-init : goal.string-pieces-init
 string-pieces-init t c = record {
-  so_far = after _ _ _ _ _ _ (prim.string_open _ _ _ _ _ _ _ c.requires.0 c.requires.1 c.requires.2 c.requires.3 c.if-room-eq0.false (c.take-next.ensures.taken (is k.StringStart) c.requires.3)) (c.in_ok-x.ensures.gives) ∙ ap (λ l. string_rest c.args.lenient (c.args.room.brackets - 1) c.args.room.limit c.in_ok-x.left c.take-next.result.0.now.span c.take-next.result.0.now.text l c.in_ok-x.x (drop c.in_ok-x.end c.args.source.now)) (sym c.new-pieces.ensures);
+  so_far = after _ _ _ _ _ _ (prim.string_open _ _ _ _ _ _ _ c.requires.0 c.requires.1 c.requires.2 c.requires.3 c.if-room-eq0.false (c.take-next.ensures.taken (is k.StringStart) c.requires.3)) (c.in_ok-x.ensures.gives) ∙ ap (λ l. string_rest c.args.lenient (c.args.room.brackets - 1) c.args.room.limit c.in_ok-x.left c.take-next.result.0.span c.take-next.result.0.text.now l c.in_ok-x.x (drop c.in_ok-x.end c.args.source.now)) (sym c.new-pieces.ensures);
   moves = omega (arith, c.in_ok-x.ensures.moves);
   inside = c.in_ok-x.ensures.inside;
 }
@@ -369,7 +369,7 @@ string-returns-in_err-y-clause-gives t c =
 
 pub string-pieces-preserved : goal.string-pieces-preserved
 string-pieces-preserved t c = record {
-  so_far = after _ _ _ _ _ _ (c.pieces.invariant.so_far ∙ prim.string_more _ _ _ _ _ _ _ _ _ _ _ (sym c.is.ensures.value ∙ c.pieces-test.true) (c.take-next-in-pieces.ensures.taken (is k.StringMiddle) (sym c.is.ensures.value ∙ c.pieces-test.true))) (c.in_ok-y.ensures.gives) ∙ ap (λ l. string_rest c.args.lenient (c.args.room.brackets - 1) c.args.room.limit c.in_ok-y.y_left c.take-next.result.0.now.span c.take-next.result.0.now.text l c.in_ok-y.y (drop c.in_ok-y.y_end c.args.source.now)) (sym (c.in_ok-push.ensures.ok ∙ ap (λ p. c.pieces.pieces ++ p ∷ []) c.in_ok-piece.ensures));
+  so_far = after _ _ _ _ _ _ (c.pieces.invariant.so_far ∙ prim.string_more _ _ _ _ _ _ _ _ _ _ _ (sym c.is.ensures.value ∙ c.pieces-test.true) (c.take-next-in-pieces.ensures.taken (is k.StringMiddle) (sym c.is.ensures.value ∙ c.pieces-test.true))) (c.in_ok-y.ensures.gives) ∙ ap (λ l. string_rest c.args.lenient (c.args.room.brackets - 1) c.args.room.limit c.in_ok-y.y_left c.take-next.result.0.span c.take-next.result.0.text.now l c.in_ok-y.y (drop c.in_ok-y.y_end c.args.source.now)) (sym (c.in_ok-push.ensures.ok ∙ ap (λ p. c.pieces.pieces ++ p ∷ []) c.in_ok-piece.ensures));
   moves = omega (arith, c.in_ok-y.ensures.moves);
   inside = c.in_ok-y.ensures.inside;
 }

@@ -108,7 +108,7 @@ decreases-elements-elements l = length l.source - l.end
 
 abbrev pub invariant-string-pieces : goal.invariant-string-pieces
 invariant-string-pieces l = record {
-  so_far : read l.lenient symbol.Prim l.fn.room.brackets l.fn.room.limit l.fn.room.left (drop l.fn.at l.source) ≡ string_rest l.lenient (l.fn.room.brackets - 1) l.fn.room.limit l.left l.start.span l.start.text l.pieces l.x (drop l.end l.source);
+  so_far : read l.lenient symbol.Prim l.fn.room.brackets l.fn.room.limit l.fn.room.left (drop l.fn.at l.source) ≡ string_rest l.lenient (l.fn.room.brackets - 1) l.fn.room.limit l.left l.start.span l.start.text.now l.pieces l.x (drop l.end l.source);
   moves : l.fn.at < l.end;
   inside : l.end ≤ length l.source;
 }

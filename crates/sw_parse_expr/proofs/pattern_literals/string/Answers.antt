@@ -18,7 +18,7 @@ returns-in_err-x-clause-gives c =
 
 pub pieces-init : goal.pieces-init
 pieces-init c = record {
-  so_far = after _ _ _ _ _ _ (pat.string_open _ _ _ _ _ _ _ c.requires.0 c.requires.1 c.requires.2 c.if-room-eq0.false (c.take-next.ensures.taken (is k.StringStart) c.requires.3)) (c.in_ok-x.ensures.gives) ∙ ap (λ l. pieces_rest c.args.lenient (c.args.room.brackets - 1) c.args.room.limit c.args.room.left c.take-next.result.0.now.span c.take-next.result.0.now.text l c.in_ok-x.x (drop c.in_ok-x.end c.args.source.now)) (sym c.new-pieces.ensures);
+  so_far = after _ _ _ _ _ _ (pat.string_open _ _ _ _ _ _ _ c.requires.0 c.requires.1 c.requires.2 c.if-room-eq0.false (c.take-next.ensures.taken (is k.StringStart) c.requires.3)) (c.in_ok-x.ensures.gives) ∙ ap (λ l. pieces_rest c.args.lenient (c.args.room.brackets - 1) c.args.room.limit c.args.room.left c.take-next.result.0.span c.take-next.result.0.text.now l c.in_ok-x.x (drop c.in_ok-x.end c.args.source.now)) (sym c.new-pieces.ensures);
   moves = omega (arith, c.in_ok-x.ensures.moves);
   inside = c.in_ok-x.ensures.inside;
 }
@@ -30,7 +30,7 @@ returns-in_err-y-clause-gives c =
 
 pub pieces-preserved : goal.pieces-preserved
 pieces-preserved c = record {
-  so_far = after _ _ _ _ _ _ (c.pieces.invariant.so_far ∙ pat.pieces_more _ _ _ _ _ _ _ _ _ _ _ (sym c.is.ensures.value ∙ c.pieces-test.true) (c.take-next-in-pieces.ensures.taken (is k.StringMiddle) (sym c.is.ensures.value ∙ c.pieces-test.true))) (c.in_ok-y.ensures.gives) ∙ ap (λ l. pieces_rest c.args.lenient (c.args.room.brackets - 1) c.args.room.limit c.args.room.left c.take-next.result.0.now.span c.take-next.result.0.now.text l c.in_ok-y.y (drop c.in_ok-y.y_end c.args.source.now)) (sym (c.in_ok-push.ensures.ok ∙ ap (λ p. c.pieces.pieces ++ p ∷ []) c.in_ok-piece.ensures));
+  so_far = after _ _ _ _ _ _ (c.pieces.invariant.so_far ∙ pat.pieces_more _ _ _ _ _ _ _ _ _ _ _ (sym c.is.ensures.value ∙ c.pieces-test.true) (c.take-next-in-pieces.ensures.taken (is k.StringMiddle) (sym c.is.ensures.value ∙ c.pieces-test.true))) (c.in_ok-y.ensures.gives) ∙ ap (λ l. pieces_rest c.args.lenient (c.args.room.brackets - 1) c.args.room.limit c.args.room.left c.take-next.result.0.span c.take-next.result.0.text.now l c.in_ok-y.y (drop c.in_ok-y.y_end c.args.source.now)) (sym (c.in_ok-push.ensures.ok ∙ ap (λ p. c.pieces.pieces ++ p ∷ []) c.in_ok-piece.ensures));
   moves = omega (arith, c.in_ok-y.ensures.moves);
   inside = c.in_ok-y.ensures.inside;
 }

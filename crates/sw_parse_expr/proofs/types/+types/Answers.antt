@@ -40,7 +40,7 @@ base-returns-in_err-token-clause-gives t c =
     rw (p.1, p.2) (passes _ _ _ _ _ (type.base_any _ _ _ _ _ _ _ (sym c.is.ensures.value ∙ c.if-is.false) (sym c.is-2.ensures.value ∙ c.if-is-2.false) (sym c.is-3.ensures.value ∙ c.if-is-3.true) (c.take-next.ensures.taken (is k.Any) (sym c.is-3.ensures.value ∙ c.if-is-3.true))) (c.in_err-token.ensures.gives c.args.room.left))
 
 pub base-returns-then-is-3-clause-gives : goal.base-returns-then-is-3-clause-gives
-base-returns-then-is-3-clause-gives t c = after _ _ _ _ _ _ (type.base_any _ _ _ _ _ _ _ (sym c.is.ensures.value ∙ c.if-is.false) (sym c.is-2.ensures.value ∙ c.if-is-2.false) (sym c.is-3.ensures.value ∙ c.if-is-3.true) (c.take-next.ensures.taken (is k.Any) (sym c.is-3.ensures.value ∙ c.if-is-3.true))) (c.in_ok-token.ensures.gives c.args.room.left) ∙ ap (λ n. got (tree.Any c.take-next.result.0.now.span n) c.args.room.left (drop c.in_ok-token.end c.args.source.now)) (sym c.in_ok-name.ensures)
+base-returns-then-is-3-clause-gives t c = after _ _ _ _ _ _ (type.base_any _ _ _ _ _ _ _ (sym c.is.ensures.value ∙ c.if-is.false) (sym c.is-2.ensures.value ∙ c.if-is-2.false) (sym c.is-3.ensures.value ∙ c.if-is-3.true) (c.take-next.ensures.taken (is k.Any) (sym c.is-3.ensures.value ∙ c.if-is-3.true))) (c.in_ok-token.ensures.gives c.args.room.left) ∙ ap (λ n. got (tree.Any c.take-next.result.0.span n) c.args.room.left (drop c.in_ok-token.end c.args.source.now)) (sym c.in_ok-name.ensures)
 
 pub array-returns-then-room-eq0-clause-gives : goal.array-returns-then-room-eq0-clause-gives
 array-returns-then-room-eq0-clause-gives t c = type.base_array_deep _ _ _ _ _ c.requires.0 c.requires.1 c.if-room-eq0.true
@@ -59,4 +59,4 @@ array-returns-in_err-behind-clause-gives t c =
     rw (p.1, p.2) (passes _ _ _ _ _ (after _ _ _ _ _ _ (type.base_array _ _ _ _ _ _ _ c.requires.0 c.requires.1 c.if-room-eq0.false c.if-room-eq0-2.false (c.take-next.ensures.taken (is k.LeftBracket) c.requires.1)) (c.in_ok-x.ensures.gives)) (c.in_err-behind.ensures.gives c.in_ok-x.left))
 
 pub array-returns-clause-gives : goal.array-returns-clause-gives
-array-returns-clause-gives t c = after _ _ _ _ _ _ (after _ _ _ _ _ _ (type.base_array _ _ _ _ _ _ _ c.requires.0 c.requires.1 c.if-room-eq0.false c.if-room-eq0-2.false (c.take-next.ensures.taken (is k.LeftBracket) c.requires.1)) (c.in_ok-x.ensures.gives)) (c.in_ok-behind.ensures.gives c.in_ok-x.left) ∙ ap (λ x. got (tree.Array c.take-next.result.0.now.span x) c.in_ok-x.left (drop c.in_ok-behind.behind c.args.source.now)) (sym c.in_ok-element.ensures)
+array-returns-clause-gives t c = after _ _ _ _ _ _ (after _ _ _ _ _ _ (type.base_array _ _ _ _ _ _ _ c.requires.0 c.requires.1 c.if-room-eq0.false c.if-room-eq0-2.false (c.take-next.ensures.taken (is k.LeftBracket) c.requires.1)) (c.in_ok-x.ensures.gives)) (c.in_ok-behind.ensures.gives c.in_ok-x.left) ∙ ap (λ x. got (tree.Array c.take-next.result.0.span x) c.in_ok-x.left (drop c.in_ok-behind.behind c.args.source.now)) (sym c.in_ok-element.ensures)

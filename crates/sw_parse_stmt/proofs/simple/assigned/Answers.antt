@@ -19,4 +19,4 @@ returns-in_err-value-clause-gives c =
     rw (p.1, p.2) (passes _ _ _ _ _ (stmt.assigned_some _ _ _ _ _ _ _ _ (sym c.is_place.ensures ∙ c.if-not-is_place.false) (sym c.stands.ensures.value ∙ c.if-not-stands.false) (c.take-next.ensures.taken is_assignment (sym c.stands.ensures.value ∙ c.if-not-stands.false))) (c.in_err-value.ensures.gives))
 
 pub returns-clause-gives : goal.returns-clause-gives
-returns-clause-gives c = after _ _ _ _ _ _ (stmt.assigned_some _ _ _ _ _ _ _ _ (sym c.is_place.ensures ∙ c.if-not-is_place.false) (sym c.stands.ensures.value ∙ c.if-not-stands.false) (c.take-next.ensures.taken is_assignment (sym c.stands.ensures.value ∙ c.if-not-stands.false))) (c.in_ok-value.ensures.gives) ∙ ap (λ o. got (s.Assign c.args.x o c.take-next.result.0.now.span c.in_ok-value.value) c.args.room.left (drop c.in_ok-value.end c.args.source.now)) (sym c.assign_operator-operator.ensures)
+returns-clause-gives c = after _ _ _ _ _ _ (stmt.assigned_some _ _ _ _ _ _ _ _ (sym c.is_place.ensures ∙ c.if-not-is_place.false) (sym c.stands.ensures.value ∙ c.if-not-stands.false) (c.take-next.ensures.taken is_assignment (sym c.stands.ensures.value ∙ c.if-not-stands.false))) (c.in_ok-value.ensures.gives) ∙ ap (λ o. got (s.Assign c.args.x o c.take-next.result.0.span c.in_ok-value.value) c.args.room.left (drop c.in_ok-value.end c.args.source.now)) (sym c.assign_operator-operator.ensures)
