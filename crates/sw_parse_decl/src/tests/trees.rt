@@ -53,14 +53,22 @@ fn put_type(text: &mut Text, tree: &Type) -> Result<(), Fail> {
     }
 }
 
-/// An expression of one token.
-fn put_expr(alloc: Global, text: &mut Text, tree: &Expr) -> Result<(), Fail> {
-    match tree {
-        Expr::Name(name) => put(text, name.text.as_bytes()),
-        Expr::Literal(_, Literal::Integer(value)) => {
+/// An integer, the one literal that the rows have.
+fn put_literal(alloc: Global, text: &mut Text, literal: &Literal) -> Result<(), Fail> {
+    match literal {
+        Literal::Integer(value) => {
             let digits = format!(in alloc; "{value}")?;
             put(text, digits.as_bytes())
         }
+        _ => put(text, b"other"),
+    }
+}
+
+/// An expression of one token.
+fn put_expr(alloc: Global, text: &mut Text, tree: &Expr) -> Result<(), Fail> {
+    match tree {
+        Expr::Name(name) => put(text, name.get().text.as_bytes()),
+        Expr::Literal(_, literal) => put_literal(alloc, text, literal.get()),
         _ => put(text, b"other"),
     }
 }
