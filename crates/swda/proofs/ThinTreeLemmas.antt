@@ -48,26 +48,29 @@ term_one (Str t) h = absurd h
 term_one (Var n) h = absurd h
 term_one (Add a b) h = absurd h
 
-same_layer : (o o' : BinaryOperator) (s s' : Span) (l l' r r' : Tree) → ◌≡◌ {A = Layer} (Expr-F.Binary o s l r) (Expr-F.Binary o' s' l' r') → l ≡ l'
-same_layer o o' s s' l l' r r' e = cc
+same_layer : (o o' : BinaryOperator) (s s' : Span) (p p' : Tree × Tree) → ◌≡◌ {A = Layer} (Expr-F.Binary o s p) (Expr-F.Binary o' s' p') → p ≡ p'
+same_layer o o' s s' p p' e = cc
 
-out_binary : (o : BinaryOperator) (s : Span) (l r : Tree) → out-Expr (x.Binary o s l r) ≡ Expr-F.Binary o s l r
-out_binary o s l r = ap out-Expr (sym (x.rolls-Binary o s l r)) ∙ out-roll-Expr (Expr-F.Binary o s l r)
+out_binary : (o : BinaryOperator) (s : Span) (l r : Tree) → out-Expr (x.Binary o s (l, r)) ≡ Expr-F.Binary o s (l, r)
+out_binary o s l r = ap out-Expr (sym (x.rolls-Binary o s (l, r))) ∙ out-roll-Expr (Expr-F.Binary o s (l, r))
 
-same_left : (o o' : BinaryOperator) (s s' : Span) (l l' r r' : Tree) → x.Binary o s l r ≡ x.Binary o' s' l' r' → l ≡ l'
-same_left o o' s s' l l' r r' e = same_layer o o' s s' l l' r r' (sym (out_binary o s l r) ∙ (ap out-Expr e ∙ out_binary o' s' l' r'))
+same_operands : (o o' : BinaryOperator) (s s' : Span) (l l' r r' : Tree) → x.Binary o s (l, r) ≡ x.Binary o' s' (l', r') → ◌≡◌ {A = Tree × Tree} (l, r) (l', r')
+same_operands o o' s s' l l' r r' e = same_layer o o' s s' (l, r) (l', r') (sym (out_binary o s l r) ∙ (ap out-Expr e ∙ out_binary o' s' l' r'))
 
-no_literal : (o : BinaryOperator) (s s' : Span) (l r tree : Tree) (t : Literal) → tree ≡ x.Binary o s l r → tree ≡ x.Literal s' t → ⊥
+same_left : (o o' : BinaryOperator) (s s' : Span) (l l' r r' : Tree) → x.Binary o s (l, r) ≡ x.Binary o' s' (l', r') → l ≡ l'
+same_left o o' s s' l l' r r' e = ap (λ (p : Tree × Tree). p.0) (same_operands o o' s s' l l' r r' e)
+
+no_literal : (o : BinaryOperator) (s s' : Span) (l r tree : Tree) (t : Literal) → tree ≡ x.Binary o s (l, r) → tree ≡ x.Literal s' t → ⊥
 no_literal o s s' l r tree t e h = cc
 
 -- no sum is on the left of the mark
-pub no_left : (tree left right : Tree) (o : BinaryOperator) (span : Span) (most : ℕ) → tree ≡ x.Binary o span left right
-    → ((e : Expr) → IsSumTree e → terms e ≤ most - 1 → IsExprOf e left → ⊥)
+pub no_left : (tree : Tree) (operands : Tree × Tree) (o : BinaryOperator) (span : Span) (most : ℕ) → tree ≡ x.Binary o span operands
+    → ((e : Expr) → IsSumTree e → terms e ≤ most - 1 → IsExprOf e operands.0 → ⊥)
     → (e : Expr) → IsSumTree e → terms e ≤ most → IsExprOf e tree → ⊥
-no_left tree left right o span most is none (Int n) sum few of = no_literal o span of.0 left right tree (literal.Integer n) is of.1
-no_left tree left right o span most is none (Str t) sum few of = absurd sum
-no_left tree left right o span most is none (Var n) sum few of = absurd sum
-no_left tree left right o span most is none (Add a b) sum few (s, l, r, e, left_of, right_of) =
+no_left tree (left, right) o span most is none (Int n) sum few of = no_literal o span of.0 left right tree (literal.Integer n) is of.1
+no_left tree (left, right) o span most is none (Str t) sum few of = absurd sum
+no_left tree (left, right) o span most is none (Var n) sum few of = absurd sum
+no_left tree (left, right) o span most is none (Add a b) sum few (s, l, r, e, left_of, right_of) =
     let one = term_one b sum.1 in
     none a sum.0 (omega (arith, few, one)) (subst (λ t. IsExprOf a t) (same_left _ o s span l left r right (sym e ∙ is)) left_of)
 
@@ -97,14 +100,11 @@ same_name n n' e = cc
 name_literal : (n : Name) (s : Span) (t : Literal) → x.Name n ≡ x.Literal s t → ⊥
 name_literal n s t e = cc
 
-name_binary : (n : Name) (o : BinaryOperator) (s : Span) (l r : Tree) → x.Name n ≡ x.Binary o s l r → ⊥
+name_binary : (n : Name) (o : BinaryOperator) (s : Span) (l r : Tree) → x.Name n ≡ x.Binary o s (l, r) → ⊥
 name_binary n o s l r e = cc
 
-same_right_layer : (o o' : BinaryOperator) (s s' : Span) (l l' r r' : Tree) → ◌≡◌ {A = Layer} (Expr-F.Binary o s l r) (Expr-F.Binary o' s' l' r') → r ≡ r'
-same_right_layer o o' s s' l l' r r' e = cc
-
-same_right : (o o' : BinaryOperator) (s s' : Span) (l l' r r' : Tree) → x.Binary o s l r ≡ x.Binary o' s' l' r' → r ≡ r'
-same_right o o' s s' l l' r r' e = same_right_layer o o' s s' l l' r r' (sym (out_binary o s l r) ∙ (ap out-Expr e ∙ out_binary o' s' l' r'))
+same_right : (o o' : BinaryOperator) (s s' : Span) (l l' r r' : Tree) → x.Binary o s (l, r) ≡ x.Binary o' s' (l', r') → r ≡ r'
+same_right o o' s s' l l' r r' e = ap (λ (p : Tree × Tree). p.1) (same_operands o o' s s' l l' r r' e)
 
 pub one_expr : (e e' : Expr) (tree : Tree) → IsExprOf e tree → IsExprOf e' tree → e ≡ e'
 one_expr (Int n) (Int n') tree (s, p) (s', q) = ap Int (same_integer n n' (same_literal s s' _ _ (sym p ∙ q)))
@@ -129,11 +129,14 @@ one_expr (Add a b) (Add c d) tree (s, l, r, p, left, right) (s', l', r', q, left
 
 -- ---- and of one statement
 
-same_call_layer : (f f' : Tree) (s s' : Span) (xs xs' : List Argument) → ◌≡◌ {A = Layer} (Expr-F.Call f s xs) (Expr-F.Call f' s' xs') → xs ≡ xs'
-same_call_layer f f' s s' xs xs' e = cc
+same_list : (f f' : Tree) (p p' : Span × List Argument) → ◌≡◌ {A = Layer} (Expr-F.Call f p) (Expr-F.Call f' p') → p ≡ p'
+same_list f f' p p' e = cc
 
-out_call : (f : Tree) (s : Span) (xs : List Argument) → out-Expr (x.Call f s xs) ≡ Expr-F.Call f s xs
-out_call f s xs = ap out-Expr (sym (x.rolls-Call f s xs)) ∙ out-roll-Expr (Expr-F.Call f s xs)
+same_call_layer : (f f' : Tree) (s s' : Span) (xs xs' : List Argument) → ◌≡◌ {A = Layer} (Expr-F.Call f (s, xs)) (Expr-F.Call f' (s', xs')) → xs ≡ xs'
+same_call_layer f f' s s' xs xs' e = ap (λ (p : Span × List Argument). p.1) (same_list f f' (s, xs) (s', xs') e)
+
+out_call : (f : Tree) (s : Span) (xs : List Argument) → out-Expr (x.Call f (s, xs)) ≡ Expr-F.Call f (s, xs)
+out_call f s xs = ap out-Expr (sym (x.rolls-Call f (s, xs))) ∙ out-roll-Expr (Expr-F.Call f (s, xs))
 
 same_first : (a b : Argument) → (a ∷ []) ≡ (b ∷ []) → a ≡ b
 same_first a b e = cc

@@ -24,7 +24,7 @@ abbrev pub IsExprOf : Expr → Tree → Type 0
 IsExprOf (Int n) tree = (span : Span) × (tree ≡ x.Literal span (literal.Integer n))
 IsExprOf (Str text) tree = (span : Span) × (tree ≡ x.Literal span (literal.String text []))
 IsExprOf (Var name) tree = (found : Name) × (tree ≡ x.Name found) × (found.text ≡ name)
-IsExprOf (Add a b) tree = (span : Span) × (left right : Tree) × (tree ≡ x.Binary operator.Add span left right) × IsExprOf a left × IsExprOf b right
+IsExprOf (Add a b) tree = (span : Span) × (left right : Tree) × (tree ≡ x.Binary operator.Add span (left, right)) × IsExprOf a left × IsExprOf b right
 
 -- the name `print`
 abbrev pub IsPrint : Tree → Type 0
@@ -32,7 +32,7 @@ IsPrint callee = (name : Name) × (callee ≡ x.Name name) × (name.text ≡ cod
 
 -- the call of `print` with this one argument, which has no label
 abbrev pub IsPrintOf : Tree → Tree → Type 0
-IsPrintOf value tree = (callee : Tree) × (span : Span) × (tree ≡ x.Call callee span (record { label = None; value = value } ∷ [])) × IsPrint callee
+IsPrintOf value tree = (callee : Tree) × (span : Span) × (tree ≡ x.Call callee (span, record { label = None; value = value } ∷ [])) × IsPrint callee
 
 -- of a statement
 abbrev pub IsStmtOf : Stmt → StmtTree → Type 0

@@ -44,10 +44,11 @@ const TERM_LIMIT: i64 = 1_000_000_000;
 fn term(tree: &sw_tree::Expr) -> Option<Expr>
     ensures { MatchOption result ((e : t.Expr) → IsTerm e → IsExprOf e tree.now → ⊥) (λ e. IsTerm (expr_of e) × IsExprOf (expr_of e) tree.now) }
 {
-    match tree {
-        sw_tree::Expr::Literal(_, Literal::Integer(n)) if 0 <= *n && *n < TERM_LIMIT => {
-            Some(Expr::Int(*n))
-        }
+    let sw_tree::Expr::Literal(_, literal) = tree else {
+        return None;
+    };
+    match literal.get() {
+        Literal::Integer(n) if 0 <= *n && *n < TERM_LIMIT => Some(Expr::Int(*n)),
         _ => None,
     }
 }
@@ -62,11 +63,12 @@ fn sum(alloc: Global, tree: &sw_tree::Expr, most: usize) -> Result<Option<Expr>,
         return Ok(None);
     }
     match tree {
-        sw_tree::Expr::Binary(BinaryOperator::Add, _, left, right) => {
-            let Some(right) = term(right.get()) else {
+        sw_tree::Expr::Binary(BinaryOperator::Add, _, operands) => {
+            let (left, right) = operands.get();
+            let Some(right) = term(right) else {
                 return Ok(None);
             };
-            let Some(left) = sum(alloc, left.get(), most - 1)? else {
+            let Some(left) = sum(alloc, left, most - 1)? else {
                 return Ok(None);
             };
             Ok(Some(Expr::Add(Boxed::new(alloc, left)?, Boxed::new(alloc, right)?)))
@@ -83,20 +85,25 @@ fn shown(alloc: Global, lets: usize, tree: &sw_tree::Expr) -> Result<Option<Expr
 {
     match tree {
         sw_tree::Expr::Name(name) => {
+            let name = name.get();
             if !is_name(name.text.as_bytes(), lets) {
                 return Ok(None);
             }
             Ok(Some(Expr::Var(name.text.copy()?)))
         }
-        sw_tree::Expr::Literal(_, Literal::String(text, pieces)) => {
-            if !pieces.is_empty()
-                || text.as_bytes().len() > MOST_TEXT
-                || !is_plain_text(text.as_bytes())
-            {
-                return Ok(None);
+        sw_tree::Expr::Literal(_, literal) => match literal.get() {
+            Literal::String(text, pieces) => {
+                let text = text.get();
+                if !pieces.get().is_empty()
+                    || text.as_bytes().len() > MOST_TEXT
+                    || !is_plain_text(text.as_bytes())
+                {
+                    return Ok(None);
+                }
+                Ok(Some(Expr::Str(text.copy()?)))
             }
-            Ok(Some(Expr::Str(text.copy()?)))
-        }
+            _ => sum(alloc, tree, MOST_TERMS),
+        },
         _ => sum(alloc, tree, MOST_TERMS),
     }
 }
@@ -105,7 +112,7 @@ fn is_print(callee: &sw_tree::Expr) -> bool
     ensures { IsTrue result ↔ IsPrint callee.now }
 {
     match callee {
-        sw_tree::Expr::Name(name) => name.text.as_bytes() == b"print".as_slice(),
+        sw_tree::Expr::Name(name) => name.get().text.as_bytes() == b"print".as_slice(),
         _ => false,
     }
 }
@@ -114,13 +121,12 @@ fn is_print(callee: &sw_tree::Expr) -> bool
 fn printed(tree: &sw_tree::Expr) -> Option<&sw_tree::Expr>
     ensures { MatchOption result ((value : TreeExpr) → IsPrintOf value tree.now → ⊥) (λ value. IsPrintOf value.now tree.now) }
 {
-    match tree {
-        sw_tree::Expr::Call(callee, _, arguments) => match arguments.as_slice() {
-            [argument] if argument.label.is_none() && is_print(callee.get()) => {
-                Some(&argument.value)
-            }
-            _ => None,
-        },
+    let sw_tree::Expr::Call(callee, list) = tree else {
+        return None;
+    };
+    let (_, arguments) = list.get();
+    match arguments.as_slice() {
+        [argument] if argument.label.is_none() && is_print(callee.get()) => Some(&argument.value),
         _ => None,
     }
 }

@@ -1,4 +1,5 @@
 use Rattle.std.proofs.Common.{subst, ◌≤◌, ◌-◌}
+use Rattle.sw_tree.specs.declared.expr.Expr.{Expr as Tree}
 use Rattle.swda.specs.ThinTree.{Expr}
 use Rattle.swda.specs.ThinTreeOf.{IsExprOf}
 use Rattle.swda.specs.ThinText.{IsSumTree}
@@ -10,4 +11,4 @@ pub returns-then-most-eq0 : goal.returns-then-most-eq0
 returns-then-most-eq0 t c e sum few of = terms_some e (subst (λ n. terms e ≤ n) c.if-most-eq0.true few)
 
 pub returns-in_default-2 : goal.returns-in_default-2
-returns-in_default-2 t c = no_left _ _ _ _ _ _ c.in-Binary-Add-default-default-default.is (subst (λ l. (e : Expr) → IsSumTree e → terms e ≤ c.args.most - 1 → IsExprOf e l → ⊥) c.get-in-Binary-Add-default-default-default.ensures (none_of _ _ c.in_ok-left-in-Binary-Add-default-default-default.ensures c.in_default-2.is))
+returns-in_default-2 t c = no_left _ _ _ _ _ c.in-Binary-Add-default-default.is (subst (λ (p : Tree × Tree). (e : Expr) → IsSumTree e → terms e ≤ c.args.most - 1 → IsExprOf e p.0 → ⊥) c.get.ensures (none_of _ _ c.in_ok-left-in-Binary-Add-default-default.ensures c.in_default-2.is))
