@@ -39,13 +39,12 @@ module _ (source : Text) (found : List Token) (cut : CutsInto source found) (onl
           let same : grammar.IsCauseOf File found 0 (Refused refusal) = subst (λ ts. grammar.IsCauseOf File ts 0 (Refused refusal)) (only others cut') cause in
           sound refusal.rule same.0 same.1.0
 
-  -- of the parser's answer for these tokens, as the code hands them on
-  pub read_so : (handed : List Token) (r : Result Tree FrontError) → handed ≡ found → IfOk r (λ tree. Spells false File source_room (sighted handed) tree) → IfOk r (λ tree. IsOnlyTree handed tree)
-      → IfOk r (λ tree. grammar.BreaksNone File handed 0) → IfOk r (λ tree. IsRead source tree)
-  read_so handed (Err error) e spells one sound = tt
-  read_so handed (Ok tree) e spells one sound =
-      by_both tree (subst (λ ts. Spells false File source_room (sighted ts) tree) e spells) (subst (λ ts. IsOnlyTree ts tree) e one) (subst (λ ts. grammar.BreaksNone File ts 0) e sound)
+  -- of the parser's answer for these tokens
+  pub read_so : (r : Result Tree FrontError) → IfOk r (λ tree. Spells false File source_room (sighted found) tree) → IfOk r (λ tree. IsOnlyTree found tree)
+      → IfOk r (λ tree. grammar.BreaksNone File found 0) → IfOk r (λ tree. IsRead source tree)
+  read_so (Err error) spells one sound = tt
+  read_so (Ok tree) spells one sound = by_both tree spells one sound
 
-  pub refused_so : (handed : List Token) (r : Result Tree FrontError) → handed ≡ found → IfErr r (λ error. grammar.IsCauseOf File handed 0 error) → IfErr r (λ error. HasNoTree handed error) → IfErr r (λ error. IsRefusedBy source error)
-  refused_so handed (Ok tree) e cause none = tt
-  refused_so handed (Err error) e cause none = by_parser error (subst (λ ts. grammar.IsCauseOf File ts 0 error) e cause) (subst (λ ts. HasNoTree ts error) e none)
+  pub refused_so : (r : Result Tree FrontError) → IfErr r (λ error. grammar.IsCauseOf File found 0 error) → IfErr r (λ error. HasNoTree found error) → IfErr r (λ error. IsRefusedBy source error)
+  refused_so (Ok tree) cause none = tt
+  refused_so (Err error) cause none = by_parser error cause none
