@@ -1,5 +1,5 @@
 -- What a source is read as, from what the lexer and the parser answer.
-use Rattle.std.proofs.Common.{◌≡◌, inl, inr, false, List, Result, Ok, Err, IfOk, IfErr, subst}
+use Rattle.std.proofs.Common.{inl, inr, false, List, Result, Ok, Err, IfOk, IfErr, subst}
 use Rattle.sw_rules.specs.declared.Refusal.{Refusal}
 use Rattle.sw_rules.specs.declared.FrontError.{FrontError}
 use Rattle.sw_rules.specs.declared.FrontError.TheVariants.{Refused, NoMemory}
