@@ -11,7 +11,7 @@ lexed and parsed and then `not built`.
 
 It ends with status 1 where the answer is another one, where twice the bytes take GROWTH times the time or more, or where a
 run takes MOST_MEMORY times the bytes of its source or more; with status 2 where the program cannot be run. The gate does
-not call it. Today it does end with status 1: the two dense sources take too much memory (see docs/PLANS.md).
+not call it. Times want a machine that does nothing else.
 """
 
 import os
