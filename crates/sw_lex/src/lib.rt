@@ -1,10 +1,11 @@
 //! Cuts a source into tokens, or names the first rule that it breaks before it is parsed.
 //!
-//! `lex` is the one call. The definitions that its contract cites are in `specs/`: the pieces of a string
-//! (`Strings`), comments (`Comments`), what begins at a place (`Forms`), the cut of a source (`Cut`), its
-//! tokens (`Tokens`) and its broken rules (`Rules`). They are relations, and know nothing of the code.
-//! `Reading`, `Characters`, `Telling`, `Finding` and `Scanning` follow the code, for the contracts of private
-//! functions alone; lemmas in `proofs/` show that both say the same.
+//! `lex` gives the tokens as a `Tokens`, a list that lends them by `get` and `at`. The definitions that the
+//! contracts cite are in `specs/`: the pieces of a string (`Strings`), comments (`Comments`), what begins at a
+//! place (`Forms`), the cut of a source (`Cut`), its tokens (`Tokens`) and its broken rules (`Rules`). They are
+//! relations, and know nothing of the code. `Kept` is how a list keeps its tokens. `Reading`, `Characters`,
+//! `Telling`, `Finding` and `Scanning` follow the code, for the contracts of private functions alone; lemmas in
+//! `proofs/` show that both say the same.
 #![tactic(auto)]
 
 mod brackets;
