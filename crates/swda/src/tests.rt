@@ -1,5 +1,6 @@
 //! Worked calls of the program, over loaders and sinks in memory.
 
+mod outside;
 mod refused;
 
 use crate::top::swda;
