@@ -1,9 +1,8 @@
 //! The tree of a whole source.
 
-ghost use Rattle.std.specs.Prelude.{◌≡◌, ◌≤◌, length, false, IfOk, IfErr};
+ghost use Rattle.std.specs.Prelude.{false, IfOk, IfErr};
 ghost use Rattle.sw_lex.specs.Tokens.{EndsOnce};
 ghost use Rattle.sw_parse_decl.specs.Parsed.{IsOnlyTree, HasNoTree};
-ghost use Rattle.sw_refusal.specs.Reader.{Ends};
 ghost use Rattle.sw_syntax.specs.Meaning.{Spells, source_room};
 ghost use Rattle.sw_syntax.specs.Reading.{IntegersFit};
 ghost use Rattle.sw_syntax.specs.Refusals.{BreaksNone, IsCauseOf};

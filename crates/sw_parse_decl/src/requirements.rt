@@ -1,6 +1,6 @@
 //! Requirements of protocols.
 
-ghost use Rattle.std.specs.Prelude.{◌≡◌, ◌<◌, ◌≤◌, ℕ, [], drop, length, true};
+ghost use Rattle.std.specs.Prelude.{◌≡◌, ◌<◌, ◌≤◌, [], drop, length, true};
 ghost use Rattle.sw_grammar.specs.Reading.{at_first};
 ghost use Rattle.sw_lex.specs.declared.token.TokenKind.TheVariants as k;
 ghost use Rattle.sw_syntax.specs.Lists.{items_from};

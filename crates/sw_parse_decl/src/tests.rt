@@ -13,7 +13,7 @@ use std::alloc::Global;
 use std::test::Fail;
 use sw_base::Text;
 use sw_lex::{Tokens, lex};
-use sw_syntax::{Room, Source, Stop};
+use sw_syntax::{Room, Source, Stop, lexed_integers_fit};
 use trees::write_tree;
 
 /// The room that a file has.
@@ -49,7 +49,10 @@ fn read(alloc: Global, tokens: &Tokens) -> Result<Text, Fail>
 /// What becomes of a source, as the rows write it.
 fn answer(alloc: Global, source: &[u8]) -> Result<Text, Fail> {
     match lex(alloc, source) {
-        Ok(tokens) => read(alloc, &tokens),
+        Ok(tokens) => {
+            lexed_integers_fit();
+            read(alloc, &tokens)
+        }
         Err(_) => Ok(Text::from_bytes(alloc, b"no tokens")?),
     }
 }

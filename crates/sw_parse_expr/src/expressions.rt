@@ -1,6 +1,6 @@
 //! Expressions, from the weakest marks to operands.
 
-ghost use Rattle.std.specs.Prelude.{◌≡◌, false, ◌<◌, ◌≤◌, ◌+◌, ℕ, Bool, not, ◌&&◌, drop, length, true, [], IfOk};
+ghost use Rattle.std.specs.Prelude.{◌≡◌, false, ◌<◌, ◌≤◌, ◌+◌, ℕ, Bool, not, ◌&&◌, drop, length, true};
 ghost use Rattle.sw_grammar.specs.Reading.{at_first, got};
 ghost use Rattle.sw_lex.specs.declared.token.TokenKind.TheVariants as k;
 ghost use Rattle.sw_syntax.specs.Chains.{IsLater, arg_list, await_part, element_list, forms, takes_one, try_part};

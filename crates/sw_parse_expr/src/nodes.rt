@@ -1,7 +1,6 @@
 //! The nodes of expressions that need memory, and what a token says of one.
 
-ghost use Rattle.std.specs.Prelude.{◌≡◌, ◌≤◌, [], ◌∷◌, ◌++◌, IfOk, Some, None, pos};
-ghost use Rattle.sw_lex.specs.Rules.{number};
+ghost use Rattle.std.specs.Prelude.{◌≡◌, IfOk, Some, None};
 ghost use Rattle.sw_syntax.specs.Sights.{lent_face};
 ghost use Rattle.sw_syntax.specs.Values as spec;
 

@@ -1,8 +1,7 @@
 //! The expression that the tokens of a source begin with at a place.
 
-ghost use Rattle.std.specs.Prelude.{◌≡◌, ◌≤◌, ◌<◌, length, IfOk, IfErr};
+ghost use Rattle.std.specs.Prelude.{◌<◌, length, IfOk, IfErr};
 ghost use Rattle.sw_lex.specs.Tokens.{EndsOnce};
-ghost use Rattle.sw_refusal.specs.Reader.{Ends};
 ghost use Rattle.sw_syntax.specs.Reading.{IntegersFit};
 ghost use Rattle.sw_syntax.specs.Refusals.{IsText, BreaksNone, IsCauseOf};
 ghost use Rattle.sw_syntax.specs.Symbols as symbol;

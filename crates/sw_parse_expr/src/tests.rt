@@ -15,6 +15,7 @@ use std::test::Fail;
 use sw_base::Text;
 use sw_lex::{Tokens, lex};
 use sw_rules::{FrontError, Refusal};
+use sw_syntax::lexed_integers_fit;
 use sw_tree::{Argument, Expr, Literal, TryForm};
 
 fn put(text: &mut Text, bytes: &[u8]) -> Result<(), Fail> {
@@ -193,7 +194,10 @@ fn read(alloc: Global, tokens: &Tokens) -> Result<Text, Fail>
 /// What becomes of a source, as the rows write it.
 fn answer(alloc: Global, source: &[u8]) -> Result<Text, Fail> {
     match lex(alloc, source) {
-        Ok(tokens) => read(alloc, &tokens),
+        Ok(tokens) => {
+            lexed_integers_fit();
+            read(alloc, &tokens)
+        }
         Err(error) => failed(alloc, error),
     }
 }

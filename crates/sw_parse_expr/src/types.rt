@@ -1,6 +1,6 @@
 //! Types.
 
-ghost use Rattle.std.specs.Prelude.{◌≡◌, false, ◌<◌, ◌≤◌, drop, length, true, IfOk};
+ghost use Rattle.std.specs.Prelude.{◌≡◌, false, ◌<◌, drop, length, true, IfOk};
 ghost use Rattle.sw_grammar.specs.Reading.{at_first};
 ghost use Rattle.sw_lex.specs.declared.token.TokenKind.TheVariants as k;
 ghost use Rattle.sw_syntax.specs.Meaning.{read};

@@ -19,7 +19,7 @@ use sqlite_items::Items;
 use std::alloc::Global;
 use sw_lex::TokenKind;
 use sw_parse_expr::expr;
-use sw_syntax::{Opening, Room, Source, Stop, Test, expect_opening, trimmed};
+use sw_syntax::{Opening, Room, Source, Test, expect_opening, trimmed};
 use sw_tree::{Catch, Stmt};
 
 /// A statement at this place that does not end in an expression, and is no `return`.

@@ -1,6 +1,6 @@
 //! The parts of statements in which no statement stands.
 
-ghost use Rattle.std.specs.Prelude.{◌≡◌, false, ◌<◌, ◌≤◌, drop, length, true};
+ghost use Rattle.std.specs.Prelude.{◌<◌, ◌≤◌, drop, length};
 ghost use Rattle.sw_syntax.specs.Bodies.{annotation_part, catch_pattern, cond_list, label_part, loop_name, pattern_list, range_part};
 ghost use Rattle.sw_syntax.specs.Reading.{Gives, Inside, Moves, Stays};
 
@@ -9,7 +9,7 @@ use sqlite_items::Items;
 use std::alloc::Global;
 use sw_lex::TokenKind;
 use sw_parse_expr::{catch_pattern, condition, expr, pattern, type_};
-use sw_syntax::{Opening, Room, Source, Stop, Test, stands, trimmed};
+use sw_syntax::{Opening, Room, Source, Test, stands, trimmed};
 use sw_tree::{ArmLabel, CatchPattern, Condition, Name, Pattern, RangeEnd, Type};
 
 /// The `:` and the type at this place, if they stand there.

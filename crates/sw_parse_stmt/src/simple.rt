@@ -14,7 +14,7 @@ use crate::{Reading, nodes};
 use std::alloc::Global;
 use sw_lex::TokenKind;
 use sw_parse_expr::expr;
-use sw_syntax::{Opening, Room, Source, Stop, Test, stands};
+use sw_syntax::{Opening, Room, Source, Test, stands};
 use sw_tree::{Expr, Stmt};
 
 /// `let` or `var` at this place, with a name, perhaps a type, and a value.

@@ -17,7 +17,7 @@ use crate::Reading;
 use std::alloc::Global;
 use sw_lex::TokenKind;
 use sw_parse_expr::expr;
-use sw_syntax::{Opening, Room, Source, Stop, Test, stands};
+use sw_syntax::{Opening, Room, Source, Test, stands};
 use sw_tree::Stmt;
 
 /// A statement of a body, and whether others may stand behind it.

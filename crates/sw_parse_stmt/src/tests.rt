@@ -1,7 +1,7 @@
 //! Blocks read by hand, from the words that say what the grammar is: no contract says that memory is there, nor that
 //! the definitions say what was meant.
 
-ghost use Rattle.std.specs.Prelude.{◌<◌, length};
+ghost use Rattle.std.specs.Prelude.{◌<◌};
 ghost use Rattle.sw_syntax.specs.Reading.{IntegersFit};
 ghost use Rattle.sw_syntax.specs.Tokens.{sighted};
 
@@ -13,7 +13,7 @@ use std::alloc::Global;
 use std::test::Fail;
 use sw_base::Text;
 use sw_lex::{Tokens, lex};
-use sw_syntax::{Room, Source, Stop};
+use sw_syntax::{Room, Source, Stop, lexed_integers_fit};
 use sw_tree::{
     ArmLabel, Binding, Block, Branch, Catch, CatchPattern, Condition, Expr, Literal, Name, Pattern,
     RangeEnd, Stmt, SwitchArm, Type,
@@ -313,7 +313,10 @@ fn read(alloc: Global, tokens: &Tokens) -> Result<Text, Fail>
 /// What becomes of a source, as the rows write it.
 fn answer(alloc: Global, source: &[u8]) -> Result<Text, Fail> {
     match lex(alloc, source) {
-        Ok(tokens) => read(alloc, &tokens),
+        Ok(tokens) => {
+            lexed_integers_fit();
+            read(alloc, &tokens)
+        }
         Err(_) => Ok(Text::from_bytes(alloc, b"no tokens")?),
     }
 }

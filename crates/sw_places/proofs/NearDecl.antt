@@ -3,7 +3,7 @@ use Rattle.std.proofs.Common.{◌≡◌, Bool, false, inl, inr, List, map, Optio
 use Rattle.sw_base.specs.declared.ids.Span.{Span}
 use Rattle.sw_lex.specs.declared.token.TokenKind.{TokenKind}
 use Rattle.sw_lex.specs.declared.token.TokenKind.TheVariants as k
-use Rattle.sw_grammar.specs.Grammar.{mark, maybe, many, limited, gives, when}
+use Rattle.sw_grammar.specs.Grammar.{mark, maybe, gives, when}
 use Rattle.sw_grammar.specs.Grammar as g
 use Rattle.sw_tree.specs.Erased.{nowhere, option_map, erase_name, erase_expr, erase_type, erase_stmt, erase_modifier, erase_typealias, erase_heading, erase_label, erase_parameter, erase_signature, erase_accessor, erase_member, erase_payload, erase_case, erase_item, erase_requirement, erase_decl, erase}
 use Rattle.sw_tree.specs.declared.expr.Name.{Name}

@@ -2,7 +2,7 @@
 use Rattle.std.proofs.Common.{◌≡◌, ℕ, zero, suc, Bool, true, false, inl, inr, List, [], ◌∷◌, map, Option, Some, None, refl, sym, ap, ◌∙◌}
 use Rattle.sw_base.specs.declared.ids.Span.{Span}
 use Rattle.sw_lex.specs.declared.token.TokenKind.TheVariants as k
-use Rattle.sw_grammar.specs.Grammar.{mark, maybe, many, counts, limited, gives}
+use Rattle.sw_grammar.specs.Grammar.{mark, maybe, many, counts}
 use Rattle.sw_grammar.specs.Grammar as g
 use Rattle.sw_grammar.proofs.Near.{LikeOption, LikeList}
 use Rattle.sw_tree.specs.Erased.{option_map, erase_name, erase_expr, erase_type, erase_literal}

@@ -1,7 +1,7 @@
 -- Patterns and conditions of alike texts are alike.
 use Rattle.std.proofs.Common.{false, inl, inr, map, refl, ap}
 use Rattle.sw_lex.specs.declared.token.TokenKind.TheVariants as k
-use Rattle.sw_grammar.specs.Grammar.{limited, maybe}
+use Rattle.sw_grammar.specs.Grammar.{maybe}
 use Rattle.sw_grammar.specs.Grammar as g
 use Rattle.sw_tree.specs.Erased.{erase_name, erase_expr, erase_type, erase_bind, erase_pattern, erase_catch_pattern, erase_condition}
 use Rattle.sw_tree.specs.declared.stmt.Condition.TheVariants as c

@@ -1,7 +1,7 @@
 -- Statements of alike texts are alike.
 use Rattle.std.proofs.Common.{◌≡◌, false, inl, inr, map, Option, Some, None, refl, sym, ap, ◌∙◌}
 use Rattle.sw_lex.specs.declared.token.TokenKind.TheVariants as k
-use Rattle.sw_grammar.specs.Grammar.{mark, maybe, many, counts, limited, gives}
+use Rattle.sw_grammar.specs.Grammar.{mark, maybe, counts, gives}
 use Rattle.sw_grammar.specs.Grammar as g
 use Rattle.sw_tree.specs.Erased.{nowhere, option_map, erase_name, erase_expr, erase_type, erase_pattern, erase_catch_pattern, erase_arm_label, erase_range_end, erase_stmt}
 use Rattle.sw_tree.specs.declared.expr.Expr.{Expr as ExprTree}

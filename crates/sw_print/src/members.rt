@@ -1,6 +1,6 @@
 //! Members of declared types.
 
-ghost use Rattle.std.specs.Prelude.{◌≡◌, List, [], ◌∷◌, ◌++◌, codes, OnOk};
+ghost use Rattle.std.specs.Prelude.{◌≡◌, [], ◌∷◌, ◌++◌, codes, OnOk};
 ghost use Rattle.sw_layout.specs.declared.gap.Gap.TheVariants as GapValue;
 ghost use Rattle.sw_layout.specs.Words.{row_text};
 ghost use Rattle.sw_print.specs.Declarations.{accessor_words, case_words, computed_words, contextual, func_words, initializer_words, item_words, member_words, payload_words, requirement_words, stored_words, typealias_words};

@@ -1,8 +1,7 @@
 //! Patterns of a `switch` and of a `catch`.
 
-ghost use Rattle.std.specs.Prelude.{◌≡◌, [], ◌∷◌, ◌++◌, OnOk};
+ghost use Rattle.std.specs.Prelude.{◌≡◌, ◌++◌, OnOk};
 ghost use Rattle.sw_layout.specs.Words.{row_text};
-ghost use Rattle.sw_print.specs.Expressions.{name_word};
 ghost use Rattle.sw_print.specs.Statements.{bind_words, binds_words, catch_pattern_words, label_words, pattern_words};
 
 use crate::expressions::write_literal;
@@ -13,7 +12,7 @@ use sqlite_items::Items;
 use sw_base::NoMemory;
 use sw_layout::Gap;
 use sw_lex::TokenKind;
-use sw_tree::{ArmLabel, Bind, CatchPattern, Name, Pattern};
+use sw_tree::{ArmLabel, Bind, CatchPattern, Pattern};
 
 impl Written for Bind {
     ghost words = { bind_words };

@@ -5,7 +5,7 @@ ghost use Rattle.sw_lex.specs.declared.token.TokenKind.TheVariants as TokenKindV
 ghost use Rattle.sw_layout.specs.declared.gap.Gap.TheVariants as GapValue;
 ghost use Rattle.sw_layout.specs.Words.{plain, row_text};
 ghost use Rattle.sw_print.specs.Expressions.{perhaps};
-ghost use Rattle.sw_print.specs.Statements.{arm_words, block_words, branch_words, catch_pattern_words, catch_words, catches_words, each_line, else_ifs, lines, separated, stmt_words};
+ghost use Rattle.sw_print.specs.Statements.{arm_words, block_words, branch_words, catch_pattern_words, catch_words, catches_words, else_ifs, lines, separated, stmt_words};
 
 use crate::clauses::{
     write_assign, write_conditions, write_for, write_initial, write_local, write_return,

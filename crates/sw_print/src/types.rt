@@ -1,6 +1,6 @@
 //! Types.
 
-ghost use Rattle.std.specs.Prelude.{◌≡◌, [], ◌∷◌, ◌++◌, OnOk};
+ghost use Rattle.std.specs.Prelude.{◌≡◌, ◌++◌, OnOk};
 ghost use Rattle.sw_layout.specs.Words.{row_text};
 ghost use Rattle.sw_layout.specs.declared.gap.Gap.{Gap as GapValue};
 ghost use Rattle.sw_print.specs.Expressions.{mark_gap, type_words};

@@ -1,6 +1,6 @@
 //! What is written as words, and lists of it.
 
-ghost use Rattle.std.specs.Prelude.{◌≡◌, List, [], ◌∷◌, ◌++◌, map, OnOk};
+ghost use Rattle.std.specs.Prelude.{◌≡◌, List, [], ◌++◌, map, OnOk};
 ghost use Rattle.sw_layout.specs.declared.gap.Gap.{Gap as GapValue};
 ghost use Rattle.sw_layout.specs.Words.{Word, row_text};
 ghost use Rattle.sw_print.specs.Expressions.{listed, in_parens};

@@ -1,6 +1,6 @@
 //! The rule that the tokens of a source break first, as a text of a reader's symbol.
 
-ghost use Rattle.std.specs.Prelude.{◌≡◌, ◌≤◌, ◌<◌, ◌+◌, ℕ, drop, length, true, false, IfOk, Some};
+ghost use Rattle.std.specs.Prelude.{◌≡◌, ◌≤◌, ◌<◌, ℕ, drop, length, true, false, IfOk, Some};
 ghost use Rattle.sw_grammar.specs.Reading.{bad};
 ghost use Rattle.sw_refusal.specs.Reaching.{OfCut, Says, Tells, IsAwaitTry, Below, NotBelow, Finds, Names};
 ghost use Rattle.sw_syntax.specs.Meaning.{read_in, source_room};

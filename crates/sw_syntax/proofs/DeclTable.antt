@@ -2,7 +2,7 @@
 use Rattle.std.proofs.Common.{Bool, refl}
 use Rattle.sw_grammar.specs.Deciding.{IsTable}
 use Rattle.sw_syntax.specs.Tokens.{same_kind, Sighted, Face, face_of}
-use Rattle.sw_syntax.specs.Symbols.{Decls, Members, Items, Requirements, Symbol, File, Some', Rest, Item, Param, Case, Payload, Type', Base, Block, Prim, Sort}
+use Rattle.sw_syntax.specs.Symbols.{Decls, Members, Items, Requirements, Symbol, File, Some', Rest, Item, Param, Case, Payload, Type', Base, Block, Sort}
 use Rattle.sw_syntax.specs.Grammar.{rule}
 use Rattle.sw_syntax.specs.Tables.{heads, tails, empties}
 use Rattle.sw_syntax.proofs.Classes.{apart, follows}

@@ -1,7 +1,7 @@
 -- What is spelt or begun in the grammar is so in the lenient one, with the same value.
 use Rattle.std.proofs.Common.{◌≡◌, ℕ, zero, suc, Bool, true, false, inl, inr, List, [], ◌∷◌, Option, Some, None, refl, sym, ◌∙◌, append-nil}
 use Rattle.sw_grammar.specs.Grammar as g
-use Rattle.sw_grammar.specs.Grammar.{Part, Room, Counted, Each, Then, Heads, Derives_by, Derives, Begins_by, Begins}
+use Rattle.sw_grammar.specs.Grammar.{Part, Room, Counted, Each, Then, Derives_by, Derives, Begins_by, Begins}
 use Rattle.sw_tree.specs.declared.expr.Expr.{Expr as ExprTree}
 use Rattle.sw_syntax.specs.Tokens.{Sighted, Face, face_of}
 use Rattle.sw_syntax.specs.Tests.{is_binary}

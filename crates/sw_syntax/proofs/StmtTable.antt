@@ -2,7 +2,7 @@
 use Rattle.std.proofs.Common.{Bool, refl}
 use Rattle.sw_grammar.specs.Deciding.{IsTable}
 use Rattle.sw_syntax.specs.Tokens.{same_kind, Sighted, Face, face_of}
-use Rattle.sw_syntax.specs.Symbols.{InBlock, InArm, Open, Closed, Symbol, Sbody, Stmts, AfterStmt, AfterReturn, Stmt', If, Arms, Cond, Pat, Cpat, Prim, Sort}
+use Rattle.sw_syntax.specs.Symbols.{InBlock, InArm, Open, Closed, Symbol, Sbody, Stmts, AfterStmt, AfterReturn, Stmt', If, Arms, Cond, Pat, Cpat, Sort}
 use Rattle.sw_syntax.specs.Grammar.{rule}
 use Rattle.sw_syntax.specs.Tables.{heads, tails, empties}
 use Rattle.sw_syntax.proofs.Classes.{apart, follows}

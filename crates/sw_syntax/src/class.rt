@@ -1,6 +1,6 @@
 //! What a token is to the grammar.
 
-ghost use Rattle.std.specs.Prelude.{◌≡◌, ◌<◌};
+ghost use Rattle.std.specs.Prelude.{◌≡◌};
 ghost use Rattle.sw_syntax.specs.Sights.{whole, passes, starts_argument};
 ghost use Rattle.sw_syntax.specs.Tests as spec;
 ghost use Rattle.sw_syntax.specs.Tables as table;

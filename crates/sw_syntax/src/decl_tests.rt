@@ -1,6 +1,6 @@
 //! What statements and declarations look at in a token.
 
-ghost use Rattle.std.specs.Prelude.{◌≡◌, ◌<◌, ℕ, Bool, List, [], drop, length, true};
+ghost use Rattle.std.specs.Prelude.{◌≡◌, ◌<◌, ℕ, drop, length, true};
 ghost use Rattle.sw_grammar.specs.Reading.{at_first, one};
 ghost use Rattle.sw_syntax.specs.DeclTests.{stands, starts_bind};
 ghost use Rattle.sw_syntax.specs.Bodies.{is_returned};

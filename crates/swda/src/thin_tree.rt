@@ -1,6 +1,6 @@
 //! The bodies of thin trees.
 
-ghost use Rattle.std.specs.Prelude.{◌≡◌, ◌≢◌, ◌∷◌, [], ◌≤◌, ◌<◌, ◌↔◌, ℕ, pos, ◌++◌, List, IfOk, OnOk, MatchOption, IsTrue, length};
+ghost use Rattle.std.specs.Prelude.{◌≡◌, ◌≢◌, ◌∷◌, [], ◌≤◌, ◌<◌, ◌↔◌, ◌++◌, List, IfOk, OnOk, MatchOption, IsTrue, length};
 ghost use Rattle.swda.specs.ThinTree as t;
 ghost use Rattle.swda.specs.ThinTrees.{expr_of, stmt_of, body_of};
 ghost use Rattle.sw_tree.specs.declared.expr.Expr.{Expr as TreeExpr};

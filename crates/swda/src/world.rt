@@ -1,6 +1,6 @@
 //! The world of one node and one root task: its job, what it printed, and all that happened.
 
-ghost use Rattle.std.specs.Prelude.{◌≡◌, ◌<◌, ◌≤◌, ◌+◌, ◌^◌, ◌↔◌, [], ◌∷◌, ◌++◌, Some, None, IfOk, OnOk, IsErrOf, MatchOption, vec_len, vec_capacity, length};
+ghost use Rattle.std.specs.Prelude.{◌≡◌, ◌<◌, ◌+◌, [], ◌∷◌, ◌++◌, Some, None, IfOk, OnOk, IsErrOf, MatchOption, vec_len, vec_capacity, length};
 ghost use Rattle.sw_job.specs.Machine.{frame};
 ghost use Rattle.sw_job.specs.declared.turn.Given.TheVariants.{Nothing};
 ghost use Rattle.swda.specs.History.{turn_entry};

@@ -1,7 +1,7 @@
 -- Values that a grammar's productions build of tokens of a kind, without the runs of these tokens.
 use Rattle.std.proofs.Common.{◌≡◌, ℕ, zero, suc, Bool, true, ◌⊎◌, inl, inr, List, [], ◌∷◌, ◌++◌, Option, Some, None, subst}
 use Rattle.sw_grammar.specs.Grammar as g
-use Rattle.sw_grammar.specs.Grammar.{Part, Room, Counted, Each, Then, Derives_by, Derives, Spells}
+use Rattle.sw_grammar.specs.Grammar.{Part, Counted, Each, Then, Derives_by}
 
 -- each element of the list is so
 abbrev pub Every : {T : Type 0} → (T → Type 0) → List T → Type 0

@@ -1,7 +1,0 @@
-use Rattle.sw_syntax.proofs.Lexed.{lexed_fits}
-use Rattle.sw_parse_decl.proofs.tests.answer.Goals as goal
-
-pub read-requires : goal.read-requires
-read-requires c = record {
-  fits = lexed_fits c.args.source.now _ c.in-Ok.ensures.tokens c.in-Ok.ensures.unbroken;
-}
