@@ -1,7 +1,7 @@
 -- The reader reads each text of the grammar, and refuses no token up to which the tokens begin one, where one token ahead decides.
 use Rattle.std.proofs.Common.{◌≡◌, ℕ, zero, suc, ◌≤◌, Bool, true, false, cond, ◌||◌, ◌&&◌, ◌⊎◌, inl, inr, List, [], ◌∷◌, ◌++◌, length, Option, Some, None, refl, sym, ap, ◌∙◌, subst, append_assoc, arith, length-append}
 use Rattle.sw_grammar.specs.Grammar as g
-use Rattle.sw_grammar.specs.Grammar.{Part, Counted, Each, Then, Heads, Derives_by, Begins_by}
+use Rattle.sw_grammar.specs.Grammar.{Token, Part, Counted, Each, Then, Heads, Derives_by, Begins_by}
 use Rattle.sw_grammar.specs.Reading.{full, stuck, Out, got, bad, spent, ◌>>=◌, at_first, or_if, if_goes, one, turns, null, first, read_by}
 use Rattle.sw_grammar.specs.Deciding.{Apart, cont, Decided}
 use Rattle.sw_grammar.proofs.Starts.{or_false, and_both, not_true, Starts, starts_append, starts_each, starts_D, starts_B, solid, text_begins}
@@ -49,35 +49,35 @@ regroup u v w rest e = ap (λ l. l ++ rest) e ∙ append_assoc v w rest
 pub regrouped : {T : Type 0} (P : List T → Type 0) (u v w rest : List T) → u ≡ v ++ w → P (v ++ (w ++ rest)) → P (u ++ rest)
 regrouped P u v w rest e p = subst P (sym (regroup u v w rest e)) p
 
-head_first : {T : Type 0} (f h : T → Bool) (u rest : List T) → Heads f u → Starts false h u → at_first f (u ++ rest) ≡ true
+head_first : {K V : Type 0} (f h : K → Bool) (u rest : List (Token K V)) → Heads f u → Starts false h u → at_first f (u ++ rest) ≡ true
 head_first f h [] rest hd s = cc
 head_first f h (t ∷ u) rest hd s = hd
 
 -- a nonempty run begins with its first token, whatever follows
-pub at_first_app : {T : Type 0} (f : T → Bool) (u rest : List T) → Starts false f u → at_first f (u ++ rest) ≡ true
+pub at_first_app : {K V : Type 0} (f : K → Bool) (u rest : List (Token K V)) → Starts false f u → at_first f (u ++ rest) ≡ true
 at_first_app f [] rest h = cc
 at_first_app f (t ∷ u) rest h = h
 
 -- what the next part begins with does not go on with this one
-pub stops : {T : Type 0} (f h : T → Bool) (nl : Bool) → Apart f h → (w rest : List T) → Starts nl h w → (nl ≡ true → at_first f rest ≡ false) → at_first f (w ++ rest) ≡ false
+pub stops : {K V : Type 0} (f h : K → Bool) (nl : Bool) → Apart f h → (w rest : List (Token K V)) → Starts nl h w → (nl ≡ true → at_first f rest ≡ false) → at_first f (w ++ rest) ≡ false
 stops f h nl apart [] rest s e = e s
-stops f h nl apart (t ∷ w) rest s e = not_true (f t) (λ k. apart t k s)
+stops f h nl apart (t ∷ w) rest s e = not_true (f t.sight) (λ k. apart t.sight k s)
 
-pub at_first_or : {T : Type 0} (f h : T → Bool) (rest : List T) → at_first (λ t. f t || h t) rest ≡ false → (at_first f rest ≡ false) × (at_first h rest ≡ false)
+pub at_first_or : {K V : Type 0} (f h : K → Bool) (rest : List (Token K V)) → at_first (λ t. f t || h t) rest ≡ false → (at_first f rest ≡ false) × (at_first h rest ≡ false)
 at_first_or f h [] e = (refl, refl)
-at_first_or f h (t ∷ rest) e = or_false (f t) (h t) e
+at_first_or f h (t ∷ rest) e = or_false (f t.sight) (h t.sight) e
 
 -- an empty first run hands its first test on
-at_first_or_if : {T : Type 0} (b : Bool) (f h : T → Bool) (rest : List T) → at_first (λ t. or_if b (f t) (h t)) rest ≡ false → (at_first f rest ≡ false) × (b ≡ true → at_first h rest ≡ false)
+at_first_or_if : {K V : Type 0} (b : Bool) (f h : K → Bool) (rest : List (Token K V)) → at_first (λ t. or_if b (f t) (h t)) rest ≡ false → (at_first f rest ≡ false) × (b ≡ true → at_first h rest ≡ false)
 at_first_or_if b f h [] e = (refl, λ _. refl)
-at_first_or_if true f h (t ∷ rest) e = let p = or_false (f t) (h t) e in (p.0, λ _. p.1)
+at_first_or_if true f h (t ∷ rest) e = let p = or_false (f t.sight) (h t.sight) e in (p.0, λ _. p.1)
 at_first_or_if false f h (t ∷ rest) e = (e, λ p. cc)
 
-shorter : {T : Type 0} (f : T → Bool) (v w rest : List T) (k : ℕ) → Starts false f v → length (v ++ (w ++ rest)) ≤ suc k → length (w ++ rest) ≤ k
+shorter : {K V : Type 0} (f : K → Bool) (v w rest : List (Token K V)) (k : ℕ) → Starts false f v → length (v ++ (w ++ rest)) ≤ suc k → length (w ++ rest) ≤ k
 shorter f [] w rest k s h = cc
 shorter f (t ∷ v) w rest k s h = omega (arith, h, length-append v (w ++ rest))
 
-longer : {T : Type 0} (f : T → Bool) (v m : List T) → Starts false f v → length (v ++ m) ≤ 0 → ⊥
+longer : {K V : Type 0} (f : K → Bool) (v m : List (Token K V)) → Starts false f v → length (v ++ m) ≤ 0 → ⊥
 longer f [] m s h = cc
 longer f (t ∷ v) m s h = omega (arith, h)
 
@@ -98,41 +98,41 @@ reads_then b (bad stuck r) x m0 mid k z e0 rest p h = elim p [ ]
 reads_then b spent x m0 mid k z e0 rest p h = elim p [ ]
 
 -- one part, and a second where it comes
-complete_then : {T A C : Type 0} (b : Bool) (ca fb cb : T → Bool) (p : ℕ → List T → Out T A) (q : ℕ → List T → Out T C) (D : Counted T A) (E : Counted T C) (goes : A → Bool) → Apart ca fb
-    → ((c0 e0 : ℕ) (u : List T) (x : A) (c : ℕ) (rest : List T) → D c0 e0 u x → Fits b c0 c → at_first ca rest ≡ false → Reads b x e0 rest (p c (u ++ rest)))
-    → ((c0 e0 : ℕ) (u : List T) (y : C) (c : ℕ) (rest : List T) → E c0 e0 u y → Fits b c0 c → at_first cb rest ≡ false → Reads b y e0 rest (q c (u ++ rest)))
-    → ((c0 e0 : ℕ) (u : List T) (y : C) → E c0 e0 u y → Starts false fb u)
-    → (c0 e0 : ℕ) (u : List T) (x : A) (y : Option C) (c : ℕ) (rest : List T) → Then D E goes c0 e0 u x y → Fits b c0 c → at_first (λ t. ca t || (fb t || cb t)) rest ≡ false
+complete_then : {K V A C : Type 0} (b : Bool) (ca fb cb : K → Bool) (p : ℕ → List (Token K V) → Out (Token K V) A) (q : ℕ → List (Token K V) → Out (Token K V) C) (D : Counted (Token K V) A) (E : Counted (Token K V) C) (goes : A → Bool) → Apart ca fb
+    → ((c0 e0 : ℕ) (u : List (Token K V)) (x : A) (c : ℕ) (rest : List (Token K V)) → D c0 e0 u x → Fits b c0 c → at_first ca rest ≡ false → Reads b x e0 rest (p c (u ++ rest)))
+    → ((c0 e0 : ℕ) (u : List (Token K V)) (y : C) (c : ℕ) (rest : List (Token K V)) → E c0 e0 u y → Fits b c0 c → at_first cb rest ≡ false → Reads b y e0 rest (q c (u ++ rest)))
+    → ((c0 e0 : ℕ) (u : List (Token K V)) (y : C) → E c0 e0 u y → Starts false fb u)
+    → (c0 e0 : ℕ) (u : List (Token K V)) (x : A) (y : Option C) (c : ℕ) (rest : List (Token K V)) → Then D E goes c0 e0 u x y → Fits b c0 c → at_first (λ t. ca t || (fb t || cb t)) rest ≡ false
     → Reads b (x, y) e0 rest (p c (u ++ rest) >>= (λ x m rest. if_goes (goes x && at_first fb rest) x m rest (q m rest)))
-complete_then {T} {A} {C} b ca fb cb p q D E goes apart hp hq hs c0 e0 u x None c rest d fc st =
+complete_then {K} {V} {A} {C} b ca fb cb p q D E goes apart hp hq hs c0 e0 u x None c rest d fc st =
     let s = at_first_or ca (λ t. fb t || cb t) rest st in
-    let go : A → ℕ → List T → Out T (A × Option C) = λ x m rest. if_goes (goes x && at_first fb rest) x m rest (q m rest) in
+    let go : A → ℕ → List (Token K V) → Out (Token K V) (A × Option C) = λ x m rest. if_goes (goes x && at_first fb rest) x m rest (q m rest) in
     reads_then b (p c (u ++ rest)) x e0 rest go (x, None) e0 rest (hp c0 e0 u x c rest d fc s.0)
     (λ m fm. subst (λ z. Reads b (x, None) e0 rest (if_goes z x m rest (q m rest))) (sym (and_second (goes x) (at_first fb rest) (at_first_or fb cb rest s.1).0)) (refl, refl, fm))
-complete_then {T} {A} {C} b ca fb cb p q D E goes apart hp hq hs c0 e0 u x (Some y) c rest (v, w, m0, eu, d, is, d') fc st =
+complete_then {K} {V} {A} {C} b ca fb cb p q D E goes apart hp hq hs c0 e0 u x (Some y) c rest (v, w, m0, eu, d, is, d') fc st =
     let s = at_first_or ca (λ t. fb t || cb t) rest st in
-    let go : A → ℕ → List T → Out T (A × Option C) = λ x m rest. if_goes (goes x && at_first fb rest) x m rest (q m rest) in
+    let go : A → ℕ → List (Token K V) → Out (Token K V) (A × Option C) = λ x m rest. if_goes (goes x && at_first fb rest) x m rest (q m rest) in
     let start = hs m0 e0 w y d' in
     regrouped (λ l. Reads b (x, Some y) e0 rest (p c l >>= go)) u v w rest eu
     (reads_then b (p c (v ++ (w ++ rest))) x m0 (w ++ rest) go (x, Some y) e0 rest (hp c0 m0 v x c (w ++ rest) d fc (stops ca fb false apart w rest start (λ n. cc)))
     (λ m fm. subst (λ z. Reads b (x, Some y) e0 rest (if_goes z x m (w ++ rest) (q m (w ++ rest)))) (sym (and_both (goes x) (at_first fb (w ++ rest)) is (at_first_app fb w rest start)))
     (reads_then b (q m (w ++ rest)) y e0 rest (λ y e r. got (x, Some y) e r) (x, Some y) e0 rest (hq m0 e0 w y m rest d' fm (at_first_or fb cb rest s.1).1) (λ e fe. (refl, refl, fe)))))
 
-complete_turns : {T A : Type 0} (b : Bool) (f ca : T → Bool) (p : ℕ → List T → Out T A) (D : Counted T A) → Apart ca f
-    → ((c0 e0 : ℕ) (u : List T) (x : A) → D c0 e0 u x → Starts false f u)
-    → ((c0 e0 : ℕ) (u : List T) (x : A) (c : ℕ) (rest : List T) → D c0 e0 u x → Fits b c0 c → at_first ca rest ≡ false → Reads b x e0 rest (p c (u ++ rest)))
-    → (k : ℕ) (xs : List A) (c0 e0 : ℕ) (u : List T) (c : ℕ) (rest : List T) → length (u ++ rest) ≤ k → Each D c0 e0 u xs → Fits b c0 c → at_first f rest ≡ false → at_first ca rest ≡ false
+complete_turns : {K V A : Type 0} (b : Bool) (f ca : K → Bool) (p : ℕ → List (Token K V) → Out (Token K V) A) (D : Counted (Token K V) A) → Apart ca f
+    → ((c0 e0 : ℕ) (u : List (Token K V)) (x : A) → D c0 e0 u x → Starts false f u)
+    → ((c0 e0 : ℕ) (u : List (Token K V)) (x : A) (c : ℕ) (rest : List (Token K V)) → D c0 e0 u x → Fits b c0 c → at_first ca rest ≡ false → Reads b x e0 rest (p c (u ++ rest)))
+    → (k : ℕ) (xs : List A) (c0 e0 : ℕ) (u : List (Token K V)) (c : ℕ) (rest : List (Token K V)) → length (u ++ rest) ≤ k → Each D c0 e0 u xs → Fits b c0 c → at_first f rest ≡ false → at_first ca rest ≡ false
     → Reads b xs e0 rest (turns f p k c (u ++ rest))
 complete_turns b f ca p D apart hs hp zero [] c0 e0 u c rest l (eu, ec) fc sf sc = (refl, ap (λ l. l ++ rest) eu, subst (λ e. Fits b e c) (sym ec) fc)
 complete_turns b f ca p D apart hs hp (suc k) [] c0 e0 u c rest l (eu, ec) fc sf sc =
     subst (λ u. Reads b [] e0 rest (turns f p (suc k) c (u ++ rest))) (sym eu) (on_false (λ o. Reads b [] e0 rest o) (at_first f rest) _ _ sf (refl, refl, subst (λ e. Fits b e c) (sym ec) fc))
 complete_turns b f ca p D apart hs hp zero (x ∷ xs) c0 e0 u c rest l (v, w, m0, eu, d, each) fc sf sc =
     absurd (longer f v (w ++ rest) (hs c0 m0 v x d) (subst (λ l. length l ≤ 0) (regroup u v w rest eu) l))
-complete_turns {T} {A} b f ca p D apart hs hp (suc k) (x ∷ xs) c0 e0 u c rest l (v, w, m0, eu, d, each) fc sf sc =
+complete_turns {K} {V} {A} b f ca p D apart hs hp (suc k) (x ∷ xs) c0 e0 u c rest l (v, w, m0, eu, d, each) fc sf sc =
     let start = hs c0 m0 v x d in
     let tail : at_first ca (w ++ rest) ≡ false = stops ca f true apart w rest (starts_each false f D hs xs m0 e0 w each) (λ _. sc) in
     let l' = shorter f v w rest k start (subst (λ l. length l ≤ suc k) (regroup u v w rest eu) l) in
-    let more : A → ℕ → List T → Out T (List A) = λ x m rest. turns f p k m rest >>= (λ xs e r. got (x ∷ xs) e r) in
+    let more : A → ℕ → List (Token K V) → Out (Token K V) (List A) = λ x m rest. turns f p k m rest >>= (λ xs e r. got (x ∷ xs) e r) in
     regrouped (λ l. Reads b (x ∷ xs) e0 rest (turns f p (suc k) c l)) u v w rest eu
     (on_true (λ o. Reads b (x ∷ xs) e0 rest o) (at_first f (v ++ (w ++ rest))) _ _ (at_first_app f v (w ++ rest) start)
     (reads_then b (p c (v ++ (w ++ rest))) x m0 (w ++ rest) more (x ∷ xs) e0 rest (hp c0 m0 v x c (w ++ rest) d fc tail)
@@ -183,14 +183,14 @@ lies_goes : {T A C : Type 0} (z : Bool) (x : A) (c : ℕ) (r : List T) (o : Out 
 lies_goes true x c r o h = lies_then r o _ h (λ y c r. ([], refl))
 lies_goes false x c r o h = ([], refl)
 
-pub lies_turns : {T A : Type 0} (f : T → Bool) (p : ℕ → List T → Out T A) → ((c : ℕ) (ts : List T) → Lies ts (p c ts)) → (k c : ℕ) (ts : List T) → Lies ts (turns f p k c ts)
+pub lies_turns : {K V A : Type 0} (f : K → Bool) (p : ℕ → List (Token K V) → Out (Token K V) A) → ((c : ℕ) (ts : List (Token K V)) → Lies ts (p c ts)) → (k c : ℕ) (ts : List (Token K V)) → Lies ts (turns f p k c ts)
 lies_turns f p h zero c ts = ([], refl)
 lies_turns f p h (suc k) c ts = lies_cond (at_first f ts) ts _ _
     (lies_then ts (p c ts) _ (h c ts) (λ x m r. lies_then r (turns f p k m r) _ (lies_turns f p h k m r) (λ xs e r. ([], refl)))) ([], refl)
 
-lies_one : {T V : Type 0} (face : T → V) (f : T → Bool) (c : ℕ) (ts : List T) → Lies ts (one face f c ts)
-lies_one face f c [] = ([], refl)
-lies_one face f c (t ∷ ts) = lies_cond (f t) (t ∷ ts) (got (face t) c ts) (bad stuck (t ∷ ts)) (t ∷ [], refl) ([], refl)
+lies_one : {K V : Type 0} (f : K → Bool) (c : ℕ) (ts : List (Token K V)) → Lies ts (one f c ts)
+lies_one f c [] = ([], refl)
+lies_one f c (t ∷ ts) = lies_cond (f t.sight) (t ∷ ts) (got t.face c ts) (bad stuck (t ∷ ts)) (t ∷ [], refl) ([], refl)
 
 within_more : {T A : Type 0} (b : Bool) (rest r v : List T) → rest ≡ v ++ r → (o : Out T A) → Within b r o → Within b rest o
 within_more b rest r v e (got x c q) (w, e') = (v ++ w, further rest v r w q e e')
@@ -214,39 +214,39 @@ within_behind b rest mid (bad stuck r) x m0 k p h = elim p [ ]
 within_behind b rest mid spent x m0 k p h = elim p [ ]
 
 -- a text, and the beginning of one behind it
-within_second : {T A C : Type 0} (b : Bool) (ca fb : T → Bool) (p : List T → Out T A) (k : A → ℕ → List T → Out T C) → Apart ca fb → (v w rest : List T) (x : A) (m0 : ℕ)
+within_second : {K V A C : Type 0} (b : Bool) (ca fb : K → Bool) (p : List (Token K V) → Out (Token K V) A) (k : A → ℕ → List (Token K V) → Out (Token K V) C) → Apart ca fb → (v w rest : List (Token K V)) (x : A) (m0 : ℕ)
     → Within b rest (p (v ++ rest)) → (at_first ca (w ++ rest) ≡ false → Reads b x m0 (w ++ rest) (p (v ++ (w ++ rest)))) → Starts true fb w
-    → ((x : A) (c : ℕ) (r : List T) → Lies r (k x c r)) → (Starts false fb w → (m : ℕ) → Fits b m0 m → Within b rest (k x m (w ++ rest)))
+    → ((x : A) (c : ℕ) (r : List (Token K V)) → Lies r (k x c r)) → (Starts false fb w → (m : ℕ) → Fits b m0 m → Within b rest (k x m (w ++ rest)))
     → Within b rest (p (v ++ (w ++ rest)) >>= k)
 within_second b ca fb p k apart v [] rest x m0 hv hp s any h = within_then b rest (p (v ++ rest)) k hv any
 within_second b ca fb p k apart v (t ∷ w) rest x m0 hv hp s any h =
-    within_behind b rest ((t ∷ w) ++ rest) (p (v ++ ((t ∷ w) ++ rest))) x m0 k (hp (not_true (ca t) (λ e. apart t e s))) (h s)
+    within_behind b rest ((t ∷ w) ++ rest) (p (v ++ ((t ∷ w) ++ rest))) x m0 k (hp (not_true (ca t.sight) (λ e. apart t.sight e s))) (h s)
 
-within_turns : {T A : Type 0} (b : Bool) (f ca : T → Bool) (p : ℕ → List T → Out T A) (D : Counted T A) (B : ℕ → List T → Type 0) → Apart ca f
-    → ((c0 e0 : ℕ) (u : List T) (x : A) → D c0 e0 u x → Starts false f u) → ((c0 : ℕ) (u : List T) → B c0 u → Starts true f u)
-    → ((c0 e0 : ℕ) (u : List T) (x : A) → D c0 e0 u x → B c0 u)
-    → ((c0 e0 : ℕ) (u : List T) (x : A) (c : ℕ) (rest : List T) → D c0 e0 u x → Fits b c0 c → at_first ca rest ≡ false → Reads b x e0 rest (p c (u ++ rest)))
-    → ((c0 : ℕ) (u : List T) (c : ℕ) (rest : List T) → B c0 u → Fits b c0 c → Within b rest (p c (u ++ rest)))
-    → ((c : ℕ) (ts : List T) → Lies ts (p c ts))
-    → (k : ℕ) (xs : List A) (c0 m0 : ℕ) (v w : List T) (c : ℕ) (rest : List T) → length (v ++ (w ++ rest)) ≤ k → Each D c0 m0 v xs → B m0 w → Fits b c0 c → Within b rest (turns f p k c (v ++ (w ++ rest)))
-within_turns {T} {A} b f ca p D B apart hd hb db hp hw any k [] c0 m0 v w c rest l (ev, ec) q fc =
+within_turns : {K V A : Type 0} (b : Bool) (f ca : K → Bool) (p : ℕ → List (Token K V) → Out (Token K V) A) (D : Counted (Token K V) A) (B : ℕ → List (Token K V) → Type 0) → Apart ca f
+    → ((c0 e0 : ℕ) (u : List (Token K V)) (x : A) → D c0 e0 u x → Starts false f u) → ((c0 : ℕ) (u : List (Token K V)) → B c0 u → Starts true f u)
+    → ((c0 e0 : ℕ) (u : List (Token K V)) (x : A) → D c0 e0 u x → B c0 u)
+    → ((c0 e0 : ℕ) (u : List (Token K V)) (x : A) (c : ℕ) (rest : List (Token K V)) → D c0 e0 u x → Fits b c0 c → at_first ca rest ≡ false → Reads b x e0 rest (p c (u ++ rest)))
+    → ((c0 : ℕ) (u : List (Token K V)) (c : ℕ) (rest : List (Token K V)) → B c0 u → Fits b c0 c → Within b rest (p c (u ++ rest)))
+    → ((c : ℕ) (ts : List (Token K V)) → Lies ts (p c ts))
+    → (k : ℕ) (xs : List A) (c0 m0 : ℕ) (v w : List (Token K V)) (c : ℕ) (rest : List (Token K V)) → length (v ++ (w ++ rest)) ≤ k → Each D c0 m0 v xs → B m0 w → Fits b c0 c → Within b rest (turns f p k c (v ++ (w ++ rest)))
+within_turns {K} {V} {A} b f ca p D B apart hd hb db hp hw any k [] c0 m0 v w c rest l (ev, ec) q fc =
     subst (λ v. Within b rest (turns f p k c (v ++ (w ++ rest)))) (sym ev) (go k w (subst (λ v. length (v ++ (w ++ rest)) ≤ k) ev l) q)
   where
-    go : (k : ℕ) (w : List T) → length (w ++ rest) ≤ k → B m0 w → Within b rest (turns f p k c (w ++ rest))
+    go : (k : ℕ) (w : List (Token K V)) → length (w ++ rest) ≤ k → B m0 w → Within b rest (turns f p k c (w ++ rest))
     go k [] l q = within_lies b rest (turns f p k c rest) (lies_turns f p any k c rest)
     go zero (t ∷ w) l q = absurd (omega (arith, l))
     go (suc k) (t ∷ w) l q =
-        on_true (λ o. Within b rest o) (f t) _ (got [] c ((t ∷ w) ++ rest)) (hb m0 (t ∷ w) q)
+        on_true (λ o. Within b rest o) (f t.sight) _ (got [] c ((t ∷ w) ++ rest)) (hb m0 (t ∷ w) q)
         (within_then b rest (p c ((t ∷ w) ++ rest)) _ (hw m0 (t ∷ w) c rest q (subst (λ m. Fits b m c) (sym ec) fc))
         (λ x m r. lies_then r (turns f p k m r) _ (lies_turns f p any k m r) (λ xs e r. ([], refl))))
 within_turns b f ca p D B apart hd hb db hp hw any zero (x ∷ xs) c0 m0 v w c rest l (v1, v2, m1, ev, d, each) q fc =
     absurd (longer f v1 (v2 ++ (w ++ rest)) (hd c0 m1 v1 x d) (subst (λ l. length l ≤ 0) (regroup v v1 v2 (w ++ rest) ev) l))
-within_turns {T} {A} b f ca p D B apart hd hb db hp hw any (suc k) (x ∷ xs) c0 m0 v w c rest l (v1, v2, m1, ev, d, each) q fc =
+within_turns {K} {V} {A} b f ca p D B apart hd hb db hp hw any (suc k) (x ∷ xs) c0 m0 v w c rest l (v1, v2, m1, ev, d, each) q fc =
     let shape = regroup v v1 v2 (w ++ rest) ev in
     let start = hd c0 m1 v1 x d in
     let rest_of = append_assoc v2 w rest in
     let l' = shorter f v1 v2 (w ++ rest) k start (subst (λ l. length l ≤ suc k) shape l) in
-    let more : A → ℕ → List T → Out T (List A) = λ x m rest. turns f p k m rest >>= (λ xs e r. got (x ∷ xs) e r) in
+    let more : A → ℕ → List (Token K V) → Out (Token K V) (List A) = λ x m rest. turns f p k m rest >>= (λ xs e r. got (x ∷ xs) e r) in
     let read = within_second b ca f (p c) more apart v1 (v2 ++ w) rest x m1 (hw c0 v1 c rest (db c0 m1 v1 x d) fc) (hp c0 m1 v1 x c ((v2 ++ w) ++ rest) d fc)
     (starts_append true f v2 w (starts_each false f D hd xs m1 m0 v2 each) (hb m0 w q))
     (λ x m r. lies_then r (turns f p k m r) _ (lies_turns f p any k m r) (λ xs e r. ([], refl)))
@@ -255,25 +255,25 @@ within_turns {T} {A} b f ca p D B apart hd hb db hp hw any (suc k) (x ∷ xs) c0
     let read' = subst (λ l. Within b rest (p c l >>= more)) (ap (λ l. v1 ++ l) rest_of ∙ sym shape) read in
     on_true (λ o. Within b rest o) (at_first f (v ++ (w ++ rest))) _ (got [] c (v ++ (w ++ rest))) (ap (at_first f) shape ∙ at_first_app f v1 (v2 ++ (w ++ rest)) start) read'
 
-module _ (T V S : Type 0) (Sort : S → Type 0) (face : T → V) (rule : (s : S) → Part T V S Sort (Sort s)) (heads : S → T → Bool) (empties : S → Bool) (tails : S → T → Bool) where
-  abbrev nul : {A : Type 0} → Part T V S Sort A → Bool
-  nul a = null T V S Sort face rule heads empties a
+module _ (K V S : Type 0) (Sort : S → Type 0) (rule : (s : S) → Part K V S Sort (Sort s)) (heads : S → K → Bool) (empties : S → Bool) (tails : S → K → Bool) where
+  abbrev nul : {A : Type 0} → Part K V S Sort A → Bool
+  nul a = null K V S Sort rule heads empties a
 
-  abbrev fst : {A : Type 0} → Part T V S Sort A → T → Bool
-  fst a = first T V S Sort face rule heads empties a
+  abbrev fst : {A : Type 0} → Part K V S Sort A → K → Bool
+  fst a = first K V S Sort rule heads empties a
 
-  abbrev cnt : {A : Type 0} → Part T V S Sort A → T → Bool
-  cnt a = cont T V S Sort face rule heads empties tails a
+  abbrev cnt : {A : Type 0} → Part K V S Sort A → K → Bool
+  cnt a = cont K V S Sort rule heads empties tails a
 
-  abbrev Ok : {A : Type 0} → Part T V S Sort A → Type 0
-  Ok a = Decided T V S Sort face rule heads empties tails a
+  abbrev Ok : {A : Type 0} → Part K V S Sort A → Type 0
+  Ok a = Decided K V S Sort rule heads empties tails a
 
-  module _ (R : (s : S) → ℕ → ℕ → ℕ → List T → Out T (Sort s)) (rest_lies : (s : S) (d l c : ℕ) (ts : List T) → Lies ts (R s d l c ts)) where
-    abbrev Rd : {A : Type 0} → Part T V S Sort A → ℕ → ℕ → ℕ → List T → Out T A
-    Rd a d l c ts = read_by T V S Sort face rule heads empties R a d l c ts
+  module _ (R : (s : S) → ℕ → ℕ → ℕ → List (Token K V) → Out (Token K V) (Sort s)) (rest_lies : (s : S) (d l c : ℕ) (ts : List (Token K V)) → Lies ts (R s d l c ts)) where
+    abbrev Rd : {A : Type 0} → Part K V S Sort A → ℕ → ℕ → ℕ → List (Token K V) → Out (Token K V) A
+    Rd a d l c ts = read_by K V S Sort rule heads empties R a d l c ts
 
-    pub lies_by : {A : Type 0} (a : Part T V S Sort A) (d l c : ℕ) (ts : List T) → Lies ts (Rd a d l c ts)
-    lies_by (g.mark f) d l c ts = lies_one face f c ts
+    pub lies_by : {A : Type 0} (a : Part K V S Sort A) (d l c : ℕ) (ts : List (Token K V)) → Lies ts (Rd a d l c ts)
+    lies_by (g.mark f) d l c ts = lies_one f c ts
     lies_by (g.sym s) d l c ts = rest_lies s d l c ts
     lies_by (g.both a b) d l c ts = lies_then ts (Rd a d l c ts) _ (lies_by a d l c ts) (λ x m r. lies_then r (Rd b d l m r) _ (lies_by b d l m r) (λ y e r. ([], refl)))
     lies_by (g.either a b) d l c ts = lies_cond (at_first (fst a) ts) ts _ _ (lies_by a d l c ts) (lies_by b d l c ts)
@@ -288,29 +288,29 @@ module _ (T V S : Type 0) (Sort : S → Type 0) (face : T → V) (rule : (s : S)
     lies_by (g.limited a) d l c ts = lies_then ts (Rd a d l l ts) _ (lies_by a d l l ts) (λ x e r. ([], refl))
     lies_by (g.gives f a) d l c ts = lies_then ts (Rd a d l c ts) _ (lies_by a d l c ts) (λ x e r. ([], refl))
 
-    module _ (b : Bool) (D : (s : S) → ℕ → ℕ → ℕ → ℕ → List T → Sort s → Type 0) (B : (s : S) → ℕ → ℕ → ℕ → List T → Type 0)
-        (hs : (s : S) (d l c e : ℕ) (u : List T) (x : Sort s) → D s d l c e u x → Starts (empties s) (heads s) u) where
-      abbrev Dv : {A : Type 0} → Part T V S Sort A → ℕ → ℕ → ℕ → ℕ → List T → A → Type 0
-      Dv a d l c e u x = Derives_by T V S Sort face rule D a d l c e u x
+    module _ (b : Bool) (D : (s : S) → ℕ → ℕ → ℕ → ℕ → List (Token K V) → Sort s → Type 0) (B : (s : S) → ℕ → ℕ → ℕ → List (Token K V) → Type 0)
+        (hs : (s : S) (d l c e : ℕ) (u : List (Token K V)) (x : Sort s) → D s d l c e u x → Starts (empties s) (heads s) u) where
+      abbrev Dv : {A : Type 0} → Part K V S Sort A → ℕ → ℕ → ℕ → ℕ → List (Token K V) → A → Type 0
+      Dv a d l c e u x = Derives_by K V S Sort rule D a d l c e u x
 
-      abbrev Bv : {A : Type 0} → Part T V S Sort A → ℕ → ℕ → ℕ → List T → Type 0
-      Bv a d l c u = Begins_by T V S Sort face rule D B a d l c u
+      abbrev Bv : {A : Type 0} → Part K V S Sort A → ℕ → ℕ → ℕ → List (Token K V) → Type 0
+      Bv a d l c u = Begins_by K V S Sort rule D B a d l c u
 
-      start : {A : Type 0} (a : Part T V S Sort A) → Ok a → (d l c e : ℕ) (u : List T) (x : A) → Dv a d l c e u x → Starts (nul a) (fst a) u
-      start a ok = starts_D T V S Sort face rule heads empties tails D B hs a ok
+      start : {A : Type 0} (a : Part K V S Sort A) → Ok a → (d l c e : ℕ) (u : List (Token K V)) (x : A) → Dv a d l c e u x → Starts (nul a) (fst a) u
+      start a ok = starts_D K V S Sort rule heads empties tails D B hs a ok
 
-      firm : {A : Type 0} (a : Part T V S Sort A) → Ok a → nul a ≡ false → (d l c e : ℕ) (u : List T) (x : A) → Dv a d l c e u x → Starts false (fst a) u
-      firm a ok = solid T V S Sort face rule heads empties tails D B hs a ok
+      firm : {A : Type 0} (a : Part K V S Sort A) → Ok a → nul a ≡ false → (d l c e : ℕ) (u : List (Token K V)) (x : A) → Dv a d l c e u x → Starts false (fst a) u
+      firm a ok = solid K V S Sort rule heads empties tails D B hs a ok
 
       -- ---- each text is read
 
-      module _ (h : (s : S) (d0 l0 c0 e0 : ℕ) (u : List T) (x : Sort s) (d l c : ℕ) (rest : List T) → D s d0 l0 c0 e0 u x → Fits b d0 d → Fits b l0 l → Fits b c0 c → at_first (tails s) rest ≡ false
+      module _ (h : (s : S) (d0 l0 c0 e0 : ℕ) (u : List (Token K V)) (x : Sort s) (d l c : ℕ) (rest : List (Token K V)) → D s d0 l0 c0 e0 u x → Fits b d0 d → Fits b l0 l → Fits b c0 c → at_first (tails s) rest ≡ false
           → Reads b x e0 rest (R s d l c (u ++ rest))) where
-        pub complete_by : {A : Type 0} (a : Part T V S Sort A) → Ok a → (d0 l0 c0 e0 : ℕ) (u : List T) (x : A) (d l c : ℕ) (rest : List T) → Dv a d0 l0 c0 e0 u x
+        pub complete_by : {A : Type 0} (a : Part K V S Sort A) → Ok a → (d0 l0 c0 e0 : ℕ) (u : List (Token K V)) (x : A) (d l c : ℕ) (rest : List (Token K V)) → Dv a d0 l0 c0 e0 u x
             → Fits b d0 d → Fits b l0 l → Fits b c0 c → at_first (cnt a) rest ≡ false → Reads b x e0 rest (Rd a d l c (u ++ rest))
         complete_by (g.mark f) ok d0 l0 c0 e0 u x d l c rest (t, eu, is, ex, ec) fd fl fc st =
-            subst (λ u. Reads b x e0 rest (one face f c (u ++ rest))) (sym eu)
-            (on_true (λ o. Reads b x e0 rest o) (f t) (got (face t) c rest) (bad stuck (t ∷ rest)) is (sym ex, refl, subst (λ e. Fits b e c) (sym ec) fc))
+            subst (λ u. Reads b x e0 rest (one f c (u ++ rest))) (sym eu)
+            (on_true (λ o. Reads b x e0 rest o) (f t.sight) (got t.face c rest) (bad stuck (t ∷ rest)) is (sym ex, refl, subst (λ e. Fits b e c) (sym ec) fc))
         complete_by (g.sym s) ok d0 l0 c0 e0 u x d l c rest p fd fl fc st = h s d0 l0 c0 e0 u x d l c rest p fd fl fc st
         complete_by (g.both a z) ok d0 l0 c0 e0 u x d l c rest (v, w, m0, eu, p, q) fd fl fc st =
             let halves = at_first_or_if (nul z) (cnt z) (λ t. fst z t || cnt a t) rest st in
@@ -355,23 +355,23 @@ module _ (T V S : Type 0) (Sort : S → Type 0) (face : T → V) (rule : (s : S)
 
         -- ---- no token up to which a text is begun is refused
 
-        module _ (nil : (s : S) (d l c : ℕ) → B s d l c []) (db : (s : S) (d l c e : ℕ) (u : List T) (x : Sort s) → D s d l c e u x → B s d l c u)
-            (hb : (s : S) (d l c : ℕ) (u : List T) → B s d l c u → Starts true (heads s) u)
-            (k : (s : S) (d0 l0 c0 : ℕ) (u : List T) (d l c : ℕ) (rest : List T) → B s d0 l0 c0 u → Fits b d0 d → Fits b l0 l → Fits b c0 c → Within b rest (R s d l c (u ++ rest))) where
-          lead : {A : Type 0} (a : Part T V S Sort A) → Ok a → (d l c : ℕ) (u : List T) → Bv a d l c u → Starts true (fst a) u
-          lead a ok = starts_B T V S Sort face rule heads empties tails D B hs hb a ok
+        module _ (nil : (s : S) (d l c : ℕ) → B s d l c []) (db : (s : S) (d l c e : ℕ) (u : List (Token K V)) (x : Sort s) → D s d l c e u x → B s d l c u)
+            (hb : (s : S) (d l c : ℕ) (u : List (Token K V)) → B s d l c u → Starts true (heads s) u)
+            (k : (s : S) (d0 l0 c0 : ℕ) (u : List (Token K V)) (d l c : ℕ) (rest : List (Token K V)) → B s d0 l0 c0 u → Fits b d0 d → Fits b l0 l → Fits b c0 c → Within b rest (R s d l c (u ++ rest))) where
+          lead : {A : Type 0} (a : Part K V S Sort A) → Ok a → (d l c : ℕ) (u : List (Token K V)) → Bv a d l c u → Starts true (fst a) u
+          lead a ok = starts_B K V S Sort rule heads empties tails D B hs hb a ok
 
-          begun : {A : Type 0} (a : Part T V S Sort A) (d l c e : ℕ) (u : List T) (x : A) → Dv a d l c e u x → Bv a d l c u
-          begun a = text_begins T V S Sort face rule heads empties tails D B nil db a
+          begun : {A : Type 0} (a : Part K V S Sort A) (d l c e : ℕ) (u : List (Token K V)) (x : A) → Dv a d l c e u x → Bv a d l c u
+          begun a = text_begins K V S Sort rule heads empties tails D B nil db a
 
-          anyhow : {A : Type 0} (a : Part T V S Sort A) (d l c : ℕ) (ts : List T) → Within b ts (Rd a d l c ts)
+          anyhow : {A : Type 0} (a : Part K V S Sort A) (d l c : ℕ) (ts : List (Token K V)) → Within b ts (Rd a d l c ts)
           anyhow a d l c ts = within_lies b ts (Rd a d l c ts) (lies_by a d l c ts)
 
-          pub within_by : {A : Type 0} (a : Part T V S Sort A) → Ok a → (d0 l0 c0 : ℕ) (u : List T) (d l c : ℕ) (rest : List T) → Bv a d0 l0 c0 u
+          pub within_by : {A : Type 0} (a : Part K V S Sort A) → Ok a → (d0 l0 c0 : ℕ) (u : List (Token K V)) (d l c : ℕ) (rest : List (Token K V)) → Bv a d0 l0 c0 u
               → Fits b d0 d → Fits b l0 l → Fits b c0 c → Within b rest (Rd a d l c (u ++ rest))
           within_by (g.mark f) ok d0 l0 c0 [] d l c rest p fd fl fc = anyhow (g.mark f) d l c rest
           within_by (g.mark f) ok d0 l0 c0 (t ∷ u) d l c rest (eu, is) fd fl fc =
-              subst (λ u. Within b rest (one face f c (t ∷ (u ++ rest)))) (sym eu) (on_true (λ o. Within b rest o) (f t) (got (face t) c rest) (bad stuck (t ∷ rest)) is ([], refl))
+              subst (λ u. Within b rest (one f c (t ∷ (u ++ rest)))) (sym eu) (on_true (λ o. Within b rest o) (f t.sight) (got t.face c rest) (bad stuck (t ∷ rest)) is ([], refl))
           within_by (g.sym s) ok d0 l0 c0 u d l c rest p fd fl fc = k s d0 l0 c0 u d l c rest p fd fl fc
           within_by (g.both a z) ok d0 l0 c0 u d l c rest (inl p) fd fl fc =
               within_then b rest (Rd a d l c (u ++ rest)) _ (within_by a ok.0 d0 l0 c0 u d l c rest p fd fl fc) (λ x m r. lies_then r (Rd z d l m r) _ (lies_by z d l m r) (λ y e r. ([], refl)))
@@ -385,13 +385,13 @@ module _ (T V S : Type 0) (Sort : S → Type 0) (face : T → V) (rule : (s : S)
               (λ _ m fm. within_then b rest (Rd z d l m (w ++ rest)) _ (within_by z ok.1 d0 l0 m0 w d l m rest q fd fl fm) (λ y e r. ([], refl))))
           within_by (g.either a z) ok d0 l0 c0 [] d l c rest p fd fl fc = anyhow (g.either a z) d l c rest
           within_by (g.either a z) ok d0 l0 c0 (t ∷ u) d l c rest (inl p) fd fl fc =
-              on_true (λ o. Within b rest o) (fst a t) _ _ (lead a ok.0 d0 l0 c0 (t ∷ u) p) (within_by a ok.0 d0 l0 c0 (t ∷ u) d l c rest p fd fl fc)
+              on_true (λ o. Within b rest o) (fst a t.sight) _ _ (lead a ok.0 d0 l0 c0 (t ∷ u) p) (within_by a ok.0 d0 l0 c0 (t ∷ u) d l c rest p fd fl fc)
           within_by (g.either a z) ok d0 l0 c0 (t ∷ u) d l c rest (inr p) fd fl fc =
-              on_false (λ o. Within b rest o) (fst a t) _ _ (not_true (fst a t) (λ e. ok.2 t e (lead z ok.1 d0 l0 c0 (t ∷ u) p))) (within_by z ok.1 d0 l0 c0 (t ∷ u) d l c rest p fd fl fc)
+              on_false (λ o. Within b rest o) (fst a t.sight) _ _ (not_true (fst a t.sight) (λ e. ok.2 t.sight e (lead z ok.1 d0 l0 c0 (t ∷ u) p))) (within_by z ok.1 d0 l0 c0 (t ∷ u) d l c rest p fd fl fc)
           within_by (g.maybe a) ok d0 l0 c0 [] d l c rest p fd fl fc = anyhow (g.maybe a) d l c rest
           within_by (g.maybe a) ok d0 l0 c0 (t ∷ u) d l c rest (inl e) fd fl fc = cc
           within_by (g.maybe a) ok d0 l0 c0 (t ∷ u) d l c rest (inr p) fd fl fc =
-              on_true (λ o. Within b rest o) (fst a t) _ (got None c (t ∷ (u ++ rest))) (lead a ok.0 d0 l0 c0 (t ∷ u) p)
+              on_true (λ o. Within b rest o) (fst a t.sight) _ (got None c (t ∷ (u ++ rest))) (lead a ok.0 d0 l0 c0 (t ∷ u) p)
               (within_then b rest (Rd a d l c (t ∷ (u ++ rest))) _ (within_by a ok.0 d0 l0 c0 (t ∷ u) d l c rest p fd fl fc) (λ x e r. ([], refl)))
           within_by (g.many a) ok d0 l0 c0 u d l c rest (inl eu) fd fl fc = subst (λ u. Within b rest (Rd (g.many a) d l c (u ++ rest))) (sym eu) (anyhow (g.many a) d l c rest)
           within_by (g.many a) ok d0 l0 c0 u d l c rest (inr (v, w, xs, m0, eu, each, q)) fd fl fc =
@@ -402,7 +402,7 @@ module _ (T V S : Type 0) (Sort : S → Type 0) (face : T → V) (rule : (s : S)
           within_by (g.then_if a goes z) ok d0 l0 c0 u d l c rest (inl p) fd fl fc =
               within_then b rest (Rd a d l c (u ++ rest)) _ (within_by a ok.0 d0 l0 c0 u d l c rest p fd fl fc) (λ x m r. lies_goes (goes x && at_first (fst z) r) x m r (Rd z d l m r) (lies_by z d l m r))
           within_by (g.then_if {A} {B = C} a goes z) ok d0 l0 c0 u d l c rest (inr (v, w, x, m0, eu, p, is, q)) fd fl fc =
-              let go : A → ℕ → List T → Out T (A × Option C) = λ x m r. if_goes (goes x && at_first (fst z) r) x m r (Rd z d l m r) in
+              let go : A → ℕ → List (Token K V) → Out (Token K V) (A × Option C) = λ x m r. if_goes (goes x && at_first (fst z) r) x m r (Rd z d l m r) in
               regrouped (λ i. Within b rest (Rd (g.then_if a goes z) d l c i)) u v w rest eu
               (within_second b (cnt a) (fst z) (Rd a d l c) go ok.2 v w rest x m0
               (within_by a ok.0 d0 l0 c0 v d l c rest (begun a d0 l0 c0 m0 v x p) fd fl fc)
@@ -412,16 +412,16 @@ module _ (T V S : Type 0) (Sort : S → Type 0) (face : T → V) (rule : (s : S)
               (λ s m fm. subst (λ j. Within b rest (if_goes j x m (w ++ rest) (Rd z d l m (w ++ rest)))) (sym (and_both (goes x) (at_first (fst z) (w ++ rest)) is (at_first_app (fst z) w rest s)))
               (within_then b rest (Rd z d l m (w ++ rest)) _ (within_by z ok.1 d0 l0 m0 w d l m rest q fd fl fm) (λ y e r. ([], refl)))))
           within_by (g.when f a) ok d0 l0 c0 [] d l c rest p fd fl fc = anyhow (g.when f a) d l c rest
-          within_by (g.when f a) ok d0 l0 c0 (t ∷ u) d l c rest (hd, p) fd fl fc = on_true (λ o. Within b rest o) (f t) _ _ hd (within_by a ok.0 d0 l0 c0 (t ∷ u) d l c rest p fd fl fc)
+          within_by (g.when f a) ok d0 l0 c0 (t ∷ u) d l c rest (hd, p) fd fl fc = on_true (λ o. Within b rest o) (f t.sight) _ _ hd (within_by a ok.0 d0 l0 c0 (t ∷ u) d l c rest p fd fl fc)
           within_by (g.nest a) ok d0 l0 c0 [] d l c rest p fd fl fc = anyhow (g.nest a) d l c rest
           within_by (g.nest a) ok zero l0 c0 (t ∷ u) d l c rest p fd fl fc = cc
           within_by (g.nest a) ok (suc d0) l0 c0 (t ∷ u) zero l c rest p fd fl fc =
-              on_true (λ o. Within b rest o) (fst a t) (bad full (t ∷ (u ++ rest))) (bad stuck (t ∷ (u ++ rest))) (lead a ok.0 d0 l0 c0 (t ∷ u) p) (inl (fits_none b d0 fd))
+              on_true (λ o. Within b rest o) (fst a t.sight) (bad full (t ∷ (u ++ rest))) (bad stuck (t ∷ (u ++ rest))) (lead a ok.0 d0 l0 c0 (t ∷ u) p) (inl (fits_none b d0 fd))
           within_by (g.nest a) ok (suc d0) l0 c0 (t ∷ u) (suc d) l c rest p fd fl fc = within_by a ok.0 d0 l0 c0 (t ∷ u) d l c rest p (fits_less b d0 d fd) fl fc
           within_by (g.counts a) ok d0 l0 c0 [] d l c rest p fd fl fc = anyhow (g.counts a) d l c rest
           within_by (g.counts a) ok d0 l0 zero (t ∷ u) d l c rest p fd fl fc = cc
           within_by (g.counts a) ok d0 l0 (suc c0) (t ∷ u) d l zero rest p fd fl fc =
-              on_true (λ o. Within b rest o) (fst a t) (bad full (t ∷ (u ++ rest))) (bad stuck (t ∷ (u ++ rest))) (lead a ok.0 d0 l0 c0 (t ∷ u) p) (inl (fits_none b c0 fc))
+              on_true (λ o. Within b rest o) (fst a t.sight) (bad full (t ∷ (u ++ rest))) (bad stuck (t ∷ (u ++ rest))) (lead a ok.0 d0 l0 c0 (t ∷ u) p) (inl (fits_none b c0 fc))
           within_by (g.counts a) ok d0 l0 (suc c0) (t ∷ u) d l (suc c) rest p fd fl fc = within_by a ok.0 d0 l0 c0 (t ∷ u) d l c rest p fd fl (fits_less b c0 c fc)
           within_by (g.limited a) ok d0 l0 c0 u d l c rest p fd fl fc = within_then b rest (Rd a d l l (u ++ rest)) _ (within_by a ok d0 l0 l0 u d l l rest p fd fl fl) (λ x e r. ([], refl))
           within_by (g.gives f a) ok d0 l0 c0 u d l c rest p fd fl fc = within_then b rest (Rd a d l c (u ++ rest)) _ (within_by a ok d0 l0 c0 u d l c rest p fd fl fc) (λ x e r. ([], refl))

@@ -1,36 +1,35 @@
 -- A small grammar that one token ahead decides, and what is read of some runs: sums in brackets, where signs are counted.
-use Rattle.std.proofs.Common.{◌≡◌, ℕ, suc, ◌<◌, Bool, true, false, ◌||◌, List, [], ◌∷◌, length, refl, lit<}
-use Rattle.sw_grammar.specs.Grammar.{Part, mark, sym, both, either, many, nest, counts, limited, gives}
+use Rattle.std.proofs.Common.{◌≡◌, ℕ, suc, ◌<◌, Bool, true, false, ◌||◌, List, [], ◌∷◌, map, length, refl, lit<}
+use Rattle.sw_grammar.specs.Grammar.{Token, Part, mark, sym, both, either, many, nest, counts, limited, gives}
 use Rattle.sw_grammar.specs.Reading.{full, stuck, Out, got, bad, reads}
 use Rattle.sw_grammar.specs.Deciding.{Apart, IsTable, IsDecided, Leads}
-use Rattle.sw_grammar.specs.Brackets.{level, Brackets}
 use Rattle.sw_grammar.proofs.Whole.{reads_in}
 
-data Token : Type 0 where
-  One : Token
-  Plus : Token
-  Left : Token
-  Right : Token
+data Kind : Type 0 where
+  One : Kind
+  Plus : Kind
+  Left : Kind
+  Right : Kind
 
-abbrev is_one : Token → Bool
+abbrev is_one : Kind → Bool
 is_one One = true
 is_one Plus = false
 is_one Left = false
 is_one Right = false
 
-abbrev is_plus : Token → Bool
+abbrev is_plus : Kind → Bool
 is_plus One = false
 is_plus Plus = true
 is_plus Left = false
 is_plus Right = false
 
-abbrev is_left : Token → Bool
+abbrev is_left : Kind → Bool
 is_left One = false
 is_left Plus = false
 is_left Left = true
 is_left Right = false
 
-abbrev is_right : Token → Bool
+abbrev is_right : Kind → Bool
 is_right One = false
 is_right Plus = false
 is_right Left = false
@@ -44,20 +43,21 @@ abbrev Sort : Symbol → Type 0
 Sort s = ℕ
 
 abbrev P : Type 0 → Type 1
-P A = Part Token Token Symbol Sort A
+P A = Part Kind (Unit {0}) Symbol Sort A
 
-abbrev face : Token → Token
-face t = t
+-- a token is its kind
+abbrev tok : Kind → Token Kind (Unit {0})
+tok kind = record { sight = kind; face = tt }
 
 -- its value is the number of its terms, those in brackets being one
 abbrev rule : (s : Symbol) → P (Sort s)
 rule Sum = gives (λ x. suc (length x.1)) (both (sym Term) (many (both (counts (mark is_plus)) (sym Term))))
 rule Term = either (gives (λ t. 1) (mark is_one)) (gives (λ x. 1) (nest (both (mark is_left) (both (limited (sym Sum)) (mark is_right)))))
 
-abbrev heads : Symbol → Token → Bool
+abbrev heads : Symbol → Kind → Bool
 heads s t = is_one t || is_left t
 
-abbrev tails : Symbol → Token → Bool
+abbrev tails : Symbol → Kind → Bool
 tails Sum t = is_plus t
 tails Term t = false
 
@@ -68,7 +68,7 @@ abbrev rank : Symbol → ℕ
 rank Sum = 1
 rank Term = 0
 
-never : (f : Token → Bool) → Apart (λ t. false) f
+never : (f : Kind → Bool) → Apart (λ t. false) f
 never f t p q = cc
 
 right_sum : Apart is_plus is_right
@@ -83,10 +83,10 @@ one_left Plus p q = cc
 one_left Left p q = cc
 one_left Right p q = cc
 
-decides : IsDecided Token Token Symbol Sort face rule heads empties tails rank 2
+decides : IsDecided Kind (Unit {0}) Symbol Sort rule heads empties tails rank 2
 decides = record { table = table; low = low; leads = leads }
   where
-    table : (s : Symbol) → IsTable Token Token Symbol Sort face rule heads empties tails s
+    table : (s : Symbol) → IsTable Kind (Unit {0}) Symbol Sort rule heads empties tails s
     table Sum = record {
       decided = (tt, (((tt, refl), tt, never (heads Term)), refl, never is_plus), never is_plus);
       empty = refl;
@@ -95,7 +95,7 @@ decides = record { table = table; low = low; leads = leads }
       tail = tail_sum;
     }
       where
-        tail_sum : (t : Token) → ((is_plus t || false) || (is_plus t || false)) ≡ true → is_plus t ≡ true
+        tail_sum : (t : Kind) → ((is_plus t || false) || (is_plus t || false)) ≡ true → is_plus t ≡ true
         tail_sum One h = cc
         tail_sum Plus h = refl
         tail_sum Left h = cc
@@ -112,15 +112,15 @@ decides = record { table = table; low = low; leads = leads }
     low Sum = lit< tt
     low Term = lit< tt
 
-    leads : (s : Symbol) → Leads Token Token Symbol Sort face rule heads empties tails rank (rule s) (rank s)
+    leads : (s : Symbol) → Leads Kind (Unit {0}) Symbol Sort rule heads empties tails rank (rule s) (rank s)
     leads Sum = (lit< tt, λ h. cc)
     leads Term = (tt, (tt, λ h. cc))
 
-abbrev read_sum : ℕ → ℕ → List Token → Out Token ℕ
-read_sum brackets signs ts = reads_in Token Token Symbol Sort face rule heads empties tails rank 2 decides Sum (record { brackets = brackets; left = signs; limit = signs }) ts
+abbrev read_sum : ℕ → ℕ → List Kind → Out (Token Kind (Unit {0})) ℕ
+read_sum brackets signs ts = reads_in Kind (Unit {0}) Symbol Sort rule heads empties tails rank 2 decides Sum (record { brackets = brackets; left = signs; limit = signs }) (map tok ts)
 
 -- a text, and no more signs may be counted
-text : read_sum 1 1 (One ∷ Plus ∷ One ∷ Right ∷ []) ≡ got 2 0 (Right ∷ [])
+text : read_sum 1 1 (One ∷ Plus ∷ One ∷ Right ∷ []) ≡ got 2 0 (map tok (Right ∷ []))
 unfolding reads
 text = refl
 
@@ -130,43 +130,20 @@ unfolding reads
 text_in_brackets = refl
 
 -- one sign too many
-too_many : read_sum 1 1 (One ∷ Plus ∷ One ∷ Plus ∷ One ∷ []) ≡ bad full (Plus ∷ One ∷ [])
+too_many : read_sum 1 1 (One ∷ Plus ∷ One ∷ Plus ∷ One ∷ []) ≡ bad full (map tok (Plus ∷ One ∷ []))
 unfolding reads
 too_many = refl
 
 -- one bracket too many
-too_deep : read_sum 1 1 (Left ∷ Left ∷ One ∷ []) ≡ bad full (Left ∷ One ∷ [])
+too_deep : read_sum 1 1 (Left ∷ Left ∷ One ∷ []) ≡ bad full (map tok (Left ∷ One ∷ []))
 unfolding reads
 too_deep = refl
 
 -- a token that goes on with no text, and the end where one is wanted
-out_of_place : read_sum 1 1 (One ∷ Plus ∷ Plus ∷ []) ≡ bad stuck (Plus ∷ [])
+out_of_place : read_sum 1 1 (One ∷ Plus ∷ Plus ∷ []) ≡ bad stuck (map tok (Plus ∷ []))
 unfolding reads
 out_of_place = refl
 
 at_the_end : read_sum 1 1 (Left ∷ One ∷ []) ≡ bad stuck []
 unfolding reads
 at_the_end = refl
-
-plus_left : Apart is_plus is_left
-plus_left One p q = cc
-plus_left Plus p q = cc
-plus_left Left p q = cc
-plus_left Right p q = cc
-
-one_right : Apart is_one is_right
-one_right One p q = cc
-one_right Plus p q = cc
-one_right Left p q = cc
-one_right Right p q = cc
-
-right_left : Apart is_right is_left
-right_left One p q = cc
-right_left Plus p q = cc
-right_left Left p q = cc
-right_left Right p q = cc
-
--- its brackets are as they should be
-balanced : (s : Symbol) → Brackets Token is_left is_right Token Symbol Sort level (rule s)
-balanced Sum = (refl, (refl, ((plus_left, right_sum), refl)))
-balanced Term = ((one_left, one_right), (refl, ((λ t h. h), (refl, (right_left, λ t h. h)))))

@@ -1,7 +1,7 @@
 -- What is derived or begun in a room is so in each larger room, and by each larger height.
 use Rattle.std.proofs.Common.{◌≡◌, ◌≤◌, ◌+◌, inl, inr, ℕ, zero, suc, Bool, List, [], ◌∷◌, Option, Some, None, refl, sym, ap, subst, arith}
 use Rattle.sw_grammar.specs.Grammar as g
-use Rattle.sw_grammar.specs.Grammar.{Part, Room, IsWithin, Counted, Each, Then, Heads, Derives_by, Derives, Begins_by, Begins, Spells, Begun}
+use Rattle.sw_grammar.specs.Grammar.{Token, Part, Room, IsWithin, Counted, Each, Then, Heads, Derives_by, Derives, Begins_by, Begins, Spells, Begun}
 
 -- what was left behind a text grows as what was left before it
 abbrev pub Grown : (ℕ → Type 0) → ℕ → ℕ → ℕ → Type 0
@@ -29,21 +29,21 @@ grow_then D D' E E' goes h k c0 e0 u x (Some y) (v, w, m0, eu, p, is, q) c le =
     let (e, ge, q') = k m0 e0 w y q m (omega (arith, gm, le)) in
     (e, omega (arith, gm, ge), (v, w, m, eu, p', is, q'))
 
-module _ (T V S : Type 0) (Sort : S → Type 0) (face : T → V) (rule : (s : S) → Part T V S Sort (Sort s)) where
+module _ (K V S : Type 0) (Sort : S → Type 0) (rule : (s : S) → Part K V S Sort (Sort s)) where
   abbrev pub Deriving : Type 1
-  Deriving = (s : S) → ℕ → ℕ → ℕ → ℕ → List T → Sort s → Type 0
+  Deriving = (s : S) → ℕ → ℕ → ℕ → ℕ → List (Token K V) → Sort s → Type 0
 
   abbrev pub Beginning : Type 1
-  Beginning = (s : S) → ℕ → ℕ → ℕ → List T → Type 0
+  Beginning = (s : S) → ℕ → ℕ → ℕ → List (Token K V) → Type 0
 
-  abbrev Dv : Deriving → {A : Type 0} → Part T V S Sort A → ℕ → ℕ → ℕ → ℕ → List T → A → Type 0
-  Dv D a d l c e u x = Derives_by T V S Sort face rule D a d l c e u x
+  abbrev Dv : Deriving → {A : Type 0} → Part K V S Sort A → ℕ → ℕ → ℕ → ℕ → List (Token K V) → A → Type 0
+  Dv D a d l c e u x = Derives_by K V S Sort rule D a d l c e u x
 
-  abbrev Bv : Deriving → Beginning → {A : Type 0} → Part T V S Sort A → ℕ → ℕ → ℕ → List T → Type 0
-  Bv D B a d l c u = Begins_by T V S Sort face rule D B a d l c u
+  abbrev Bv : Deriving → Beginning → {A : Type 0} → Part K V S Sort A → ℕ → ℕ → ℕ → List (Token K V) → Type 0
+  Bv D B a d l c u = Begins_by K V S Sort rule D B a d l c u
 
   -- no token begins a text of anything
-  pub begins_nil_by : (D : Deriving) (B : Beginning) → ((s : S) (d l c : ℕ) → B s d l c []) → {A : Type 0} (a : Part T V S Sort A) (d l c : ℕ) → Bv D B a d l c []
+  pub begins_nil_by : (D : Deriving) (B : Beginning) → ((s : S) (d l c : ℕ) → B s d l c []) → {A : Type 0} (a : Part K V S Sort A) (d l c : ℕ) → Bv D B a d l c []
   begins_nil_by D B h (g.mark f) d l c = tt
   begins_nil_by D B h (g.sym s) d l c = h s d l c
   begins_nil_by D B h (g.both a b) d l c = inl (begins_nil_by D B h a d l c)
@@ -59,16 +59,16 @@ module _ (T V S : Type 0) (Sort : S → Type 0) (face : T → V) (rule : (s : S)
   begins_nil_by D B h (g.limited a) d l c = begins_nil_by D B h a d l l
   begins_nil_by D B h (g.gives f a) d l c = begins_nil_by D B h a d l c
 
-  pub begins_nil : (n : ℕ) (s : S) (d l c : ℕ) → Begins T V S Sort face rule n s d l c []
+  pub begins_nil : (n : ℕ) (s : S) (d l c : ℕ) → Begins K V S Sort rule n s d l c []
   begins_nil zero s d l c = refl
-  begins_nil (suc n) s d l c = begins_nil_by (Derives T V S Sort face rule n) (Begins T V S Sort face rule n) (begins_nil n) (rule s) d l c
+  begins_nil (suc n) s d l c = begins_nil_by (Derives K V S Sort rule n) (Begins K V S Sort rule n) (begins_nil n) (rule s) d l c
 
   -- for each symbol: what D derives, D' does in each larger room
   abbrev GrowsIn : Deriving → Deriving → Type 0
-  GrowsIn D D' = (s : S) (d0 l0 c0 e0 : ℕ) (u : List T) (x : Sort s) → D s d0 l0 c0 e0 u x → (d l c : ℕ) → d0 ≤ d → l0 ≤ l → c0 ≤ c → Grown (λ e. D' s d l c e u x) c0 e0 c
+  GrowsIn D D' = (s : S) (d0 l0 c0 e0 : ℕ) (u : List (Token K V)) (x : Sort s) → D s d0 l0 c0 e0 u x → (d l c : ℕ) → d0 ≤ d → l0 ≤ l → c0 ≤ c → Grown (λ e. D' s d l c e u x) c0 e0 c
 
   module _ (D D' : Deriving) (h : GrowsIn D D') where
-    grow_by : {A : Type 0} (a : Part T V S Sort A) (d0 l0 c0 e0 : ℕ) (u : List T) (x : A) → Dv D a d0 l0 c0 e0 u x → (d l c : ℕ) → d0 ≤ d → l0 ≤ l → c0 ≤ c → Grown (λ e. Dv D' a d l c e u x) c0 e0 c
+    grow_by : {A : Type 0} (a : Part K V S Sort A) (d0 l0 c0 e0 : ℕ) (u : List (Token K V)) (x : A) → Dv D a d0 l0 c0 e0 u x → (d l c : ℕ) → d0 ≤ d → l0 ≤ l → c0 ≤ c → Grown (λ e. Dv D' a d l c e u x) c0 e0 c
     grow_by (g.mark f) d0 l0 c0 e0 u x (t, eu, is, ex, ec) d l c hd hl hc = (c, same_left c0 e0 c ec, (t, eu, is, ex, refl))
     grow_by (g.sym s) d0 l0 c0 e0 u x p d l c hd hl hc = h s d0 l0 c0 e0 u x p d l c hd hl hc
     grow_by (g.both a b) d0 l0 c0 e0 u x (v, w, m0, eu, p, q) d l c hd hl hc =
@@ -95,8 +95,8 @@ module _ (T V S : Type 0) (Sort : S → Type 0) (face : T → V) (rule : (s : S)
     grow_by (g.gives f a) d0 l0 c0 e0 u y (x, p, ey) d l c hd hl hc = let (e, ge, p') = grow_by a d0 l0 c0 e0 u x p d l c hd hl hc in (e, ge, (x, p', ey))
 
     module _ (B B' : Beginning) (nil : (s : S) (d l c : ℕ) → B' s d l c [])
-        (k : (s : S) (d0 l0 c0 : ℕ) (u : List T) → B s d0 l0 c0 u → (d l c : ℕ) → d0 ≤ d → l0 ≤ l → c0 ≤ c → B' s d l c u) where
-      grow_b : {A : Type 0} (a : Part T V S Sort A) (d0 l0 c0 : ℕ) (u : List T) → Bv D B a d0 l0 c0 u → (d l c : ℕ) → d0 ≤ d → l0 ≤ l → c0 ≤ c → Bv D' B' a d l c u
+        (k : (s : S) (d0 l0 c0 : ℕ) (u : List (Token K V)) → B s d0 l0 c0 u → (d l c : ℕ) → d0 ≤ d → l0 ≤ l → c0 ≤ c → B' s d l c u) where
+      grow_b : {A : Type 0} (a : Part K V S Sort A) (d0 l0 c0 : ℕ) (u : List (Token K V)) → Bv D B a d0 l0 c0 u → (d l c : ℕ) → d0 ≤ d → l0 ≤ l → c0 ≤ c → Bv D' B' a d l c u
       grow_b (g.mark f) d0 l0 c0 [] p d l c hd hl hc = tt
       grow_b (g.mark f) d0 l0 c0 (t ∷ u) p d l c hd hl hc = p
       grow_b (g.sym s) d0 l0 c0 u p d l c hd hl hc = k s d0 l0 c0 u p d l c hd hl hc
@@ -129,42 +129,42 @@ module _ (T V S : Type 0) (Sort : S → Type 0) (face : T → V) (rule : (s : S)
   -- ---- heights
 
   abbrev Dn : ℕ → Deriving
-  Dn n = Derives T V S Sort face rule n
+  Dn n = Derives K V S Sort rule n
 
   abbrev Bn : ℕ → Beginning
-  Bn n = Begins T V S Sort face rule n
+  Bn n = Begins K V S Sort rule n
 
   pub grow : (n m : ℕ) → n ≤ m → GrowsIn (Dn n) (Dn m)
   grow zero m le s d0 l0 c0 e0 u x p d l c hd hl hc = elim p [ ]
   grow (suc n) zero le s d0 l0 c0 e0 u x p d l c hd hl hc = absurd (omega (arith, le))
   grow (suc n) (suc m) le s d0 l0 c0 e0 u x p d l c hd hl hc = grow_by (Dn n) (Dn m) (grow n m (omega (arith, le))) (rule s) d0 l0 c0 e0 u x p d l c hd hl hc
 
-  pub grow_part : (n m : ℕ) → n ≤ m → {A : Type 0} (a : Part T V S Sort A) (d0 l0 c0 e0 : ℕ) (u : List T) (x : A) → Dv (Dn n) a d0 l0 c0 e0 u x → (d l c : ℕ) → d0 ≤ d → l0 ≤ l → c0 ≤ c → Grown (λ e. Dv (Dn m) a d l c e u x) c0 e0 c
+  pub grow_part : (n m : ℕ) → n ≤ m → {A : Type 0} (a : Part K V S Sort A) (d0 l0 c0 e0 : ℕ) (u : List (Token K V)) (x : A) → Dv (Dn n) a d0 l0 c0 e0 u x → (d l c : ℕ) → d0 ≤ d → l0 ≤ l → c0 ≤ c → Grown (λ e. Dv (Dn m) a d l c e u x) c0 e0 c
   grow_part n m le a = grow_by (Dn n) (Dn m) (grow n m le) a
 
-  pub grow_begun : (n m : ℕ) → n ≤ m → (s : S) (d0 l0 c0 : ℕ) (u : List T) → Bn n s d0 l0 c0 u → (d l c : ℕ) → d0 ≤ d → l0 ≤ l → c0 ≤ c → Bn m s d l c u
+  pub grow_begun : (n m : ℕ) → n ≤ m → (s : S) (d0 l0 c0 : ℕ) (u : List (Token K V)) → Bn n s d0 l0 c0 u → (d l c : ℕ) → d0 ≤ d → l0 ≤ l → c0 ≤ c → Bn m s d l c u
   grow_begun zero m le s d0 l0 c0 u eu d l c hd hl hc = subst (Bn m s d l c) (sym eu) (begins_nil m s d l c)
   grow_begun (suc n) zero le s d0 l0 c0 u p d l c hd hl hc = absurd (omega (arith, le))
   grow_begun (suc n) (suc m) le s d0 l0 c0 u p d l c hd hl hc =
       grow_b (Dn n) (Dn m) (grow n m (omega (arith, le))) (Bn n) (Bn m) (begins_nil m) (grow_begun n m (omega (arith, le))) (rule s) d0 l0 c0 u p d l c hd hl hc
 
-  pub grow_begun_part : (n m : ℕ) → n ≤ m → {A : Type 0} (a : Part T V S Sort A) (d0 l0 c0 : ℕ) (u : List T) → Bv (Dn n) (Bn n) a d0 l0 c0 u → (d l c : ℕ) → d0 ≤ d → l0 ≤ l → c0 ≤ c → Bv (Dn m) (Bn m) a d l c u
+  pub grow_begun_part : (n m : ℕ) → n ≤ m → {A : Type 0} (a : Part K V S Sort A) (d0 l0 c0 : ℕ) (u : List (Token K V)) → Bv (Dn n) (Bn n) a d0 l0 c0 u → (d l c : ℕ) → d0 ≤ d → l0 ≤ l → c0 ≤ c → Bv (Dn m) (Bn m) a d l c u
   grow_begun_part n m le a = grow_b (Dn n) (Dn m) (grow n m le) (Bn n) (Bn m) (begins_nil m) (grow_begun n m le) a
 
   -- more height changes nothing
-  pub up : (n m : ℕ) → n ≤ m → (s : S) (d l c e : ℕ) (u : List T) (x : Sort s) → Dn n s d l c e u x → Dn m s d l c e u x
+  pub up : (n m : ℕ) → n ≤ m → (s : S) (d l c e : ℕ) (u : List (Token K V)) (x : Sort s) → Dn n s d l c e u x → Dn m s d l c e u x
   up n m le s d l c e u x p =
       let (e', ge, p') = grow n m le s d l c e u x p d l c (omega arith) (omega arith) (omega arith) in
       let same : e' ≡ e = omega (arith, ge) in
       subst (λ e. Dn m s d l c e u x) same p'
 
-  pub up_begun : (n m : ℕ) → n ≤ m → (s : S) (d l c : ℕ) (u : List T) → Bn n s d l c u → Bn m s d l c u
+  pub up_begun : (n m : ℕ) → n ≤ m → (s : S) (d l c : ℕ) (u : List (Token K V)) → Bn n s d l c u → Bn m s d l c u
   up_begun n m le s d l c u p = grow_begun n m le s d l c u p d l c (omega arith) (omega arith) (omega arith)
 
   -- a text is one in each larger room, and what begins one does
-  pub spelt_larger : (s : S) (r r' : Room) (u : List T) (x : Sort s) → IsWithin r r' → Spells T V S Sort face rule s r u x → Spells T V S Sort face rule s r' u x
+  pub spelt_larger : (s : S) (r r' : Room) (u : List (Token K V)) (x : Sort s) → IsWithin r r' → Spells K V S Sort rule s r u x → Spells K V S Sort rule s r' u x
   spelt_larger s r r' u x le (n, e, p) =
       let (e', ge, p') = grow n n (omega arith) s r.brackets r.limit r.left e u x p r'.brackets r'.limit r'.left le.0 le.2 le.1 in (n, e', p')
 
-  pub begun_larger : (s : S) (r r' : Room) (u : List T) → IsWithin r r' → Begun T V S Sort face rule s r u → Begun T V S Sort face rule s r' u
+  pub begun_larger : (s : S) (r r' : Room) (u : List (Token K V)) → IsWithin r r' → Begun K V S Sort rule s r u → Begun K V S Sort rule s r' u
   begun_larger s r r' u le (n, p) = (n, grow_begun n n (omega arith) s r.brackets r.limit r.left u p r'.brackets r'.limit r'.left le.0 le.2 le.1)

@@ -8,9 +8,8 @@ pub mod Past
 pub mod Whole
 pub mod Prefix
 pub mod Avoid
-pub mod Alike
 pub mod Example
-pub mod Depth
 pub mod Near
 pub mod Begun
 pub mod Only
+pub mod Checked

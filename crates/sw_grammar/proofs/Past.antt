@@ -1,7 +1,7 @@
 -- Behind a text, in whatever room it is one, the reader is not stuck at once: it ends there, goes on past the next token, or lacks room.
 use Rattle.std.proofs.Common.{◌≡◌, ℕ, zero, suc, ◌≤◌, Bool, true, false, cond, ◌&&◌, inl, inr, List, [], ◌∷◌, ◌++◌, length, Option, Some, None, refl, sym, ap, ◌∙◌, subst, append_assoc, arith, length-append}
 use Rattle.sw_grammar.specs.Grammar as g
-use Rattle.sw_grammar.specs.Grammar.{Part, Counted, Each, Then, Heads, Derives_by, Begins_by}
+use Rattle.sw_grammar.specs.Grammar.{Token, Part, Counted, Each, Then, Heads, Derives_by, Begins_by}
 use Rattle.sw_grammar.specs.Reading.{full, stuck, Out, got, bad, spent, ◌>>=◌, at_first, if_goes, one, turns, null, first, read_by}
 use Rattle.sw_grammar.specs.Deciding.{Apart, cont, Decided}
 use Rattle.sw_grammar.proofs.Starts.{and_both, and_halves, not_true, Starts, starts_D, solid, starts_each}
@@ -44,116 +44,116 @@ past_behind rest mid (bad stuck r) x m0 k p h = elim p [ ]
 past_behind rest mid spent x m0 k p h = elim p [ ]
 
 -- a text behind a text
-past_second : {T A C : Type 0} (nl : Bool) (ca fb : T → Bool) (p : List T → Out T A) (k : A → ℕ → List T → Out T C) → Apart ca fb → (v w rest : List T) (x : A) (m0 : ℕ)
+past_second : {K V A C : Type 0} (nl : Bool) (ca fb : K → Bool) (p : List (Token K V) → Out (Token K V) A) (k : A → ℕ → List (Token K V) → Out (Token K V) C) → Apart ca fb → (v w rest : List (Token K V)) (x : A) (m0 : ℕ)
     → Past rest (p (v ++ rest)) → (at_first ca (w ++ rest) ≡ false → Reads false x m0 (w ++ rest) (p (v ++ (w ++ rest)))) → Starts nl fb w
-    → ((x : A) (c : ℕ) (r : List T) → Lies r (k x c r)) → ((x : A) (m : ℕ) → Past rest (k x m (w ++ rest)))
+    → ((x : A) (c : ℕ) (r : List (Token K V)) → Lies r (k x c r)) → ((x : A) (m : ℕ) → Past rest (k x m (w ++ rest)))
     → Past rest (p (v ++ (w ++ rest)) >>= k)
 past_second nl ca fb p k apart v [] rest x m0 hv hp s any h = past_then rest (p (v ++ rest)) k hv h any
 past_second nl ca fb p k apart v (t ∷ w) rest x m0 hv hp s any h =
-    past_behind rest ((t ∷ w) ++ rest) (p (v ++ ((t ∷ w) ++ rest))) x m0 k (hp (not_true (ca t) (λ e. apart t e s))) (h x)
+    past_behind rest ((t ∷ w) ++ rest) (p (v ++ ((t ∷ w) ++ rest))) x m0 k (hp (not_true (ca t.sight) (λ e. apart t.sight e s))) (h x)
 
 -- where perhaps a part follows
-past_perhaps : {T A C : Type 0} (f : T → Bool) (p : List T → Out T A) (k : A → ℕ → List T → Out T C) (x : C) (c : ℕ) → ((t : T) (rest : List T) → f t ≡ true → Within false rest (p (t ∷ rest)))
-    → ((x : A) (c : ℕ) (r : List T) → Lies r (k x c r)) → (rest : List T) → Past rest (cond (at_first f rest) (p rest >>= k) (got x c rest))
+past_perhaps : {K V A C : Type 0} (f : K → Bool) (p : List (Token K V) → Out (Token K V) A) (k : A → ℕ → List (Token K V) → Out (Token K V) C) (x : C) (c : ℕ) → ((t : (Token K V)) (rest : List (Token K V)) → f t.sight ≡ true → Within false rest (p (t ∷ rest)))
+    → ((x : A) (c : ℕ) (r : List (Token K V)) → Lies r (k x c r)) → (rest : List (Token K V)) → Past rest (cond (at_first f rest) (p rest >>= k) (got x c rest))
 past_perhaps f p k x c next any [] = ([], refl)
-past_perhaps {T} {A} {C} f p k x c next any (t ∷ rest) = go (f t) refl
+past_perhaps {K} {V} {A} {C} f p k x c next any (t ∷ rest) = go (f t.sight) refl
   where
-    go : (z : Bool) → f t ≡ z → Past (t ∷ rest) (cond z (p (t ∷ rest) >>= k) (got x c (t ∷ rest)))
+    go : (z : Bool) → f t.sight ≡ z → Past (t ∷ rest) (cond z (p (t ∷ rest) >>= k) (got x c (t ∷ rest)))
     go true is = past_next t rest (p (t ∷ rest) >>= k) (within_then false rest (p (t ∷ rest)) k (next t rest is) any)
     go false is = ([], refl)
 
-past_goes : {T A C : Type 0} (z : Bool) (f : T → Bool) (p : List T → Out T C) (x : A) (c : ℕ) → ((t : T) (rest : List T) → f t ≡ true → Within false rest (p (t ∷ rest)))
-    → (rest : List T) → Past {A = A × Option C} rest (if_goes (z && at_first f rest) x c rest (p rest))
+past_goes : {K V A C : Type 0} (z : Bool) (f : K → Bool) (p : List (Token K V) → Out (Token K V) C) (x : A) (c : ℕ) → ((t : (Token K V)) (rest : List (Token K V)) → f t.sight ≡ true → Within false rest (p (t ∷ rest)))
+    → (rest : List (Token K V)) → Past {A = A × Option C} rest (if_goes (z && at_first f rest) x c rest (p rest))
 past_goes true f p x c next [] = ([], refl)
 past_goes false f p x c next [] = ([], refl)
-past_goes {T} {A} {C} z f p x c next (t ∷ rest) = go (z && f t) refl
+past_goes {K} {V} {A} {C} z f p x c next (t ∷ rest) = go (z && f t.sight) refl
   where
-    go : (j : Bool) → (z && f t) ≡ j → Past {A = A × Option C} (t ∷ rest) (if_goes j x c (t ∷ rest) (p (t ∷ rest)))
-    go true is = past_next t rest (if_goes true x c (t ∷ rest) (p (t ∷ rest))) (within_then false rest (p (t ∷ rest)) _ (next t rest (and_halves z (f t) is).1) (λ y c r. ([], refl)))
+    go : (j : Bool) → (z && f t.sight) ≡ j → Past {A = A × Option C} (t ∷ rest) (if_goes j x c (t ∷ rest) (p (t ∷ rest)))
+    go true is = past_next t rest (if_goes true x c (t ∷ rest) (p (t ∷ rest))) (within_then false rest (p (t ∷ rest)) _ (next t rest (and_halves z (f t.sight) is).1) (λ y c r. ([], refl)))
     go false is = ([], refl)
 
 lies_goes : {T A C : Type 0} (z : Bool) (x : A) (c : ℕ) (r : List T) (o : Out T C) → Lies r o → Lies {A = A × Option C} r (if_goes z x c r o)
 lies_goes true x c r o h = lies_then r o _ h (λ y c r. ([], refl))
 lies_goes false x c r o h = ([], refl)
 
-less_long : {T : Type 0} (f : T → Bool) (v w rest : List T) (k : ℕ) → Starts false f v → length (v ++ (w ++ rest)) ≤ suc k → length (w ++ rest) ≤ k
+less_long : {K V : Type 0} (f : K → Bool) (v w rest : List (Token K V)) (k : ℕ) → Starts false f v → length (v ++ (w ++ rest)) ≤ suc k → length (w ++ rest) ≤ k
 less_long f [] w rest k s h = cc
 less_long f (t ∷ v) w rest k s h = omega (arith, h, length-append v (w ++ rest))
 
-none_left : {T : Type 0} (f : T → Bool) (v m : List T) → Starts false f v → length (v ++ m) ≤ 0 → ⊥
+none_left : {K V : Type 0} (f : K → Bool) (v m : List (Token K V)) → Starts false f v → length (v ++ m) ≤ 0 → ⊥
 none_left f [] m s h = cc
 none_left f (t ∷ v) m s h = omega (arith, h)
 
 regroup : {T : Type 0} (u v w rest : List T) → u ≡ v ++ w → u ++ rest ≡ v ++ (w ++ rest)
 regroup u v w rest e = ap (λ l. l ++ rest) e ∙ append_assoc v w rest
 
-past_turns : {T A : Type 0} (f ca : T → Bool) (p : ℕ → List T → Out T A) (D : Counted T A) → Apart ca f
-    → ((c0 e0 : ℕ) (u : List T) (x : A) → D c0 e0 u x → Starts false f u)
-    → ((c0 e0 : ℕ) (u : List T) (x : A) (c : ℕ) (rest : List T) → D c0 e0 u x → at_first ca rest ≡ false → Reads false x e0 rest (p c (u ++ rest)))
-    → ((c0 e0 : ℕ) (u : List T) (x : A) (c : ℕ) (rest : List T) → D c0 e0 u x → Past rest (p c (u ++ rest)))
-    → ((c : ℕ) (t : T) (rest : List T) → f t ≡ true → Within false rest (p c (t ∷ rest))) → ((c : ℕ) (ts : List T) → Lies ts (p c ts))
-    → (k : ℕ) (xs : List A) (c0 e0 : ℕ) (u : List T) (c : ℕ) (rest : List T) → length (u ++ rest) ≤ k → Each D c0 e0 u xs → Past rest (turns f p k c (u ++ rest))
-past_turns {T} {A} f ca p D apart hs hp hq next any zero [] c0 e0 u c rest l (eu, ec) = subst (λ u. Past rest (turns f p zero c (u ++ rest))) (sym eu) ([], refl)
-past_turns {T} {A} f ca p D apart hs hp hq next any (suc k) [] c0 e0 u c rest l (eu, ec) =
+past_turns : {K V A : Type 0} (f ca : K → Bool) (p : ℕ → List (Token K V) → Out (Token K V) A) (D : Counted (Token K V) A) → Apart ca f
+    → ((c0 e0 : ℕ) (u : List (Token K V)) (x : A) → D c0 e0 u x → Starts false f u)
+    → ((c0 e0 : ℕ) (u : List (Token K V)) (x : A) (c : ℕ) (rest : List (Token K V)) → D c0 e0 u x → at_first ca rest ≡ false → Reads false x e0 rest (p c (u ++ rest)))
+    → ((c0 e0 : ℕ) (u : List (Token K V)) (x : A) (c : ℕ) (rest : List (Token K V)) → D c0 e0 u x → Past rest (p c (u ++ rest)))
+    → ((c : ℕ) (t : (Token K V)) (rest : List (Token K V)) → f t.sight ≡ true → Within false rest (p c (t ∷ rest))) → ((c : ℕ) (ts : List (Token K V)) → Lies ts (p c ts))
+    → (k : ℕ) (xs : List A) (c0 e0 : ℕ) (u : List (Token K V)) (c : ℕ) (rest : List (Token K V)) → length (u ++ rest) ≤ k → Each D c0 e0 u xs → Past rest (turns f p k c (u ++ rest))
+past_turns {K} {V} {A} f ca p D apart hs hp hq next any zero [] c0 e0 u c rest l (eu, ec) = subst (λ u. Past rest (turns f p zero c (u ++ rest))) (sym eu) ([], refl)
+past_turns {K} {V} {A} f ca p D apart hs hp hq next any (suc k) [] c0 e0 u c rest l (eu, ec) =
     subst (λ u. Past rest (turns f p (suc k) c (u ++ rest))) (sym eu)
     (past_perhaps f (p c) (λ x m r. turns f p k m r >>= (λ xs e r. got (x ∷ xs) e r)) [] c (next c) (λ x m r. lies_then r (turns f p k m r) _ (lies_turns f p any k m r) (λ xs e r. ([], refl))) rest)
 past_turns f ca p D apart hs hp hq next any zero (x ∷ xs) c0 e0 u c rest l (v, w, m0, eu, d, each) =
     absurd (none_left f v (w ++ rest) (hs c0 m0 v x d) (subst (λ l. length l ≤ 0) (regroup u v w rest eu) l))
-past_turns {T} {A} f ca p D apart hs hp hq next any (suc k) (x ∷ xs) c0 e0 u c rest l (v, w, m0, eu, d, each) =
+past_turns {K} {V} {A} f ca p D apart hs hp hq next any (suc k) (x ∷ xs) c0 e0 u c rest l (v, w, m0, eu, d, each) =
     let start = hs c0 m0 v x d in
     let l' = less_long f v w rest k start (subst (λ l. length l ≤ suc k) (regroup u v w rest eu) l) in
-    let more : A → ℕ → List T → Out T (List A) = λ x m r. turns f p k m r >>= (λ xs e r. got (x ∷ xs) e r) in
+    let more : A → ℕ → List (Token K V) → Out (Token K V) (List A) = λ x m r. turns f p k m r >>= (λ xs e r. got (x ∷ xs) e r) in
     regrouped (λ l. Past rest (turns f p (suc k) c l)) u v w rest eu
     (on_true (λ o. Past rest o) (at_first f (v ++ (w ++ rest))) _ _ (at_first_app f v (w ++ rest) start)
     (past_second true ca f (p c) more apart v w rest x m0 (hq c0 m0 v x c rest d) (hp c0 m0 v x c (w ++ rest) d) (starts_each false f D hs xs m0 e0 w each)
     (λ x m r. lies_then r (turns f p k m r) _ (lies_turns f p any k m r) (λ xs e r. ([], refl)))
     (λ x m. past_map rest (turns f p k m (w ++ rest)) (λ xs. x ∷ xs) (λ e. e) (past_turns f ca p D apart hs hp hq next any k xs m0 e0 w m rest l' each))))
 
-module _ (T V S : Type 0) (Sort : S → Type 0) (face : T → V) (rule : (s : S) → Part T V S Sort (Sort s)) (heads : S → T → Bool) (empties : S → Bool) (tails : S → T → Bool) where
-  abbrev nul : {A : Type 0} → Part T V S Sort A → Bool
-  nul a = null T V S Sort face rule heads empties a
+module _ (K V S : Type 0) (Sort : S → Type 0) (rule : (s : S) → Part K V S Sort (Sort s)) (heads : S → K → Bool) (empties : S → Bool) (tails : S → K → Bool) where
+  abbrev nul : {A : Type 0} → Part K V S Sort A → Bool
+  nul a = null K V S Sort rule heads empties a
 
-  abbrev fst : {A : Type 0} → Part T V S Sort A → T → Bool
-  fst a = first T V S Sort face rule heads empties a
+  abbrev fst : {A : Type 0} → Part K V S Sort A → K → Bool
+  fst a = first K V S Sort rule heads empties a
 
-  abbrev cnt : {A : Type 0} → Part T V S Sort A → T → Bool
-  cnt a = cont T V S Sort face rule heads empties tails a
+  abbrev cnt : {A : Type 0} → Part K V S Sort A → K → Bool
+  cnt a = cont K V S Sort rule heads empties tails a
 
-  abbrev Ok : {A : Type 0} → Part T V S Sort A → Type 0
-  Ok a = Decided T V S Sort face rule heads empties tails a
+  abbrev Ok : {A : Type 0} → Part K V S Sort A → Type 0
+  Ok a = Decided K V S Sort rule heads empties tails a
 
-  module _ (R : (s : S) → ℕ → ℕ → ℕ → List T → Out T (Sort s)) (rest_lies : (s : S) (d l c : ℕ) (ts : List T) → Lies ts (R s d l c ts)) where
-    abbrev Rd : {A : Type 0} → Part T V S Sort A → ℕ → ℕ → ℕ → List T → Out T A
-    Rd a d l c ts = read_by T V S Sort face rule heads empties R a d l c ts
+  module _ (R : (s : S) → ℕ → ℕ → ℕ → List (Token K V) → Out (Token K V) (Sort s)) (rest_lies : (s : S) (d l c : ℕ) (ts : List (Token K V)) → Lies ts (R s d l c ts)) where
+    abbrev Rd : {A : Type 0} → Part K V S Sort A → ℕ → ℕ → ℕ → List (Token K V) → Out (Token K V) A
+    Rd a d l c ts = read_by K V S Sort rule heads empties R a d l c ts
 
-    lies : {A : Type 0} (a : Part T V S Sort A) (d l c : ℕ) (ts : List T) → Lies ts (Rd a d l c ts)
-    lies a = lies_by T V S Sort face rule heads empties tails R rest_lies a
+    lies : {A : Type 0} (a : Part K V S Sort A) (d l c : ℕ) (ts : List (Token K V)) → Lies ts (Rd a d l c ts)
+    lies a = lies_by K V S Sort rule heads empties tails R rest_lies a
 
-    module _ (next : (A : Type 0) (a : Part T V S Sort A) → Ok a → (d l c : ℕ) (t : T) (rest : List T) → fst a t ≡ true → Within false rest (Rd a d l c (t ∷ rest)))
-        (D : (s : S) → ℕ → ℕ → ℕ → ℕ → List T → Sort s → Type 0) (B : (s : S) → ℕ → ℕ → ℕ → List T → Type 0)
-        (hs : (s : S) (d l c e : ℕ) (u : List T) (x : Sort s) → D s d l c e u x → Starts (empties s) (heads s) u)
-        (reads : (A : Type 0) (a : Part T V S Sort A) → Ok a → (d0 l0 c0 e0 : ℕ) (u : List T) (x : A) (d l c : ℕ) (rest : List T) → Derives_by T V S Sort face rule D a d0 l0 c0 e0 u x
+    module _ (next : (A : Type 0) (a : Part K V S Sort A) → Ok a → (d l c : ℕ) (t : (Token K V)) (rest : List (Token K V)) → fst a t.sight ≡ true → Within false rest (Rd a d l c (t ∷ rest)))
+        (D : (s : S) → ℕ → ℕ → ℕ → ℕ → List (Token K V) → Sort s → Type 0) (B : (s : S) → ℕ → ℕ → ℕ → List (Token K V) → Type 0)
+        (hs : (s : S) (d l c e : ℕ) (u : List (Token K V)) (x : Sort s) → D s d l c e u x → Starts (empties s) (heads s) u)
+        (reads : (A : Type 0) (a : Part K V S Sort A) → Ok a → (d0 l0 c0 e0 : ℕ) (u : List (Token K V)) (x : A) (d l c : ℕ) (rest : List (Token K V)) → Derives_by K V S Sort rule D a d0 l0 c0 e0 u x
         → at_first (cnt a) rest ≡ false → Reads false x e0 rest (Rd a d l c (u ++ rest)))
-        (h : (s : S) (d0 l0 c0 e0 : ℕ) (u : List T) (x : Sort s) (d l c : ℕ) (rest : List T) → D s d0 l0 c0 e0 u x → Past rest (R s d l c (u ++ rest))) where
-      abbrev Dv : {A : Type 0} → Part T V S Sort A → ℕ → ℕ → ℕ → ℕ → List T → A → Type 0
-      Dv a d l c e u x = Derives_by T V S Sort face rule D a d l c e u x
+        (h : (s : S) (d0 l0 c0 e0 : ℕ) (u : List (Token K V)) (x : Sort s) (d l c : ℕ) (rest : List (Token K V)) → D s d0 l0 c0 e0 u x → Past rest (R s d l c (u ++ rest))) where
+      abbrev Dv : {A : Type 0} → Part K V S Sort A → ℕ → ℕ → ℕ → ℕ → List (Token K V) → A → Type 0
+      Dv a d l c e u x = Derives_by K V S Sort rule D a d l c e u x
 
-      start : {A : Type 0} (a : Part T V S Sort A) → Ok a → (d l c e : ℕ) (u : List T) (x : A) → Dv a d l c e u x → Starts (nul a) (fst a) u
-      start a ok = starts_D T V S Sort face rule heads empties tails D B hs a ok
+      start : {A : Type 0} (a : Part K V S Sort A) → Ok a → (d l c e : ℕ) (u : List (Token K V)) (x : A) → Dv a d l c e u x → Starts (nul a) (fst a) u
+      start a ok = starts_D K V S Sort rule heads empties tails D B hs a ok
 
-      firm : {A : Type 0} (a : Part T V S Sort A) → Ok a → nul a ≡ false → (d l c e : ℕ) (u : List T) (x : A) → Dv a d l c e u x → Starts false (fst a) u
-      firm a ok = solid T V S Sort face rule heads empties tails D B hs a ok
+      firm : {A : Type 0} (a : Part K V S Sort A) → Ok a → nul a ≡ false → (d l c e : ℕ) (u : List (Token K V)) (x : A) → Dv a d l c e u x → Starts false (fst a) u
+      firm a ok = solid K V S Sort rule heads empties tails D B hs a ok
 
-      head_first : (f h : T → Bool) (u rest : List T) → Heads f u → Starts false h u → at_first f (u ++ rest) ≡ true
+      head_first : (f h : K → Bool) (u rest : List (Token K V)) → Heads f u → Starts false h u → at_first f (u ++ rest) ≡ true
       head_first f h [] rest hd s = cc
       head_first f h (t ∷ u) rest hd s = hd
 
-      pub past_by : {A : Type 0} (a : Part T V S Sort A) → Ok a → (d0 l0 c0 e0 : ℕ) (u : List T) (x : A) (d l c : ℕ) (rest : List T) → Dv a d0 l0 c0 e0 u x → Past rest (Rd a d l c (u ++ rest))
+      pub past_by : {A : Type 0} (a : Part K V S Sort A) → Ok a → (d0 l0 c0 e0 : ℕ) (u : List (Token K V)) (x : A) (d l c : ℕ) (rest : List (Token K V)) → Dv a d0 l0 c0 e0 u x → Past rest (Rd a d l c (u ++ rest))
       past_by (g.mark f) ok d0 l0 c0 e0 u x d l c rest (t, eu, is, ex, ec) =
-          subst (λ u. Past rest (one face f c (u ++ rest))) (sym eu) (on_true (λ o. Past rest o) (f t) (got (face t) c rest) (bad stuck (t ∷ rest)) is ([], refl))
+          subst (λ u. Past rest (one f c (u ++ rest))) (sym eu) (on_true (λ o. Past rest o) (f t.sight) (got t.face c rest) (bad stuck (t ∷ rest)) is ([], refl))
       past_by (g.sym s) ok d0 l0 c0 e0 u x d l c rest p = h s d0 l0 c0 e0 u x d l c rest p
       past_by (g.both {A} {B = C} a z) ok d0 l0 c0 e0 u x d l c rest (v, w, m0, eu, p, q) =
-          let more : A → ℕ → List T → Out T (A × C) = λ x m r. Rd z d l m r >>= (λ y e r. got (x, y) e r) in
+          let more : A → ℕ → List (Token K V) → Out (Token K V) (A × C) = λ x m r. Rd z d l m r >>= (λ y e r. got (x, y) e r) in
           regrouped (λ i. Past rest (Rd (g.both a z) d l c i)) u v w rest eu
           (past_second (nul z) (cnt a) (fst z) (Rd a d l c) more ok.2 v w rest x.0 m0 (past_by a ok.0 d0 l0 c0 m0 v x.0 d l c rest p) (reads _ a ok.0 d0 l0 c0 m0 v x.0 d l c (w ++ rest) p) (start z ok.1 d0 l0 m0 e0 w x.1 q)
           (λ x m r. lies_then r (Rd z d l m r) _ (lies z d l m r) (λ y e r. ([], refl)))
@@ -174,7 +174,7 @@ module _ (T V S : Type 0) (Sort : S → Type 0) (face : T → V) (rule : (s : S)
       past_by (g.then_if {A} {B = C} a goes z) ok d0 l0 c0 e0 u x d l c rest p = go x.0 x.1 p (λ v x m0 p. past_by a ok.0 d0 l0 c0 m0 v x d l c rest p) (λ m0 e0 w y m q. past_by z ok.1 d0 l0 m0 e0 w y d l m rest q)
         where
           go : (x : A) (y : Option C) → Then (Dv a d0 l0) (Dv z d0 l0) goes c0 e0 u x y
-              → ((v : List T) (x : A) (m0 : ℕ) → Dv a d0 l0 c0 m0 v x → Past rest (Rd a d l c (v ++ rest))) → ((m0 e0 : ℕ) (w : List T) (y : C) (m : ℕ) → Dv z d0 l0 m0 e0 w y → Past rest (Rd z d l m (w ++ rest)))
+              → ((v : List (Token K V)) (x : A) (m0 : ℕ) → Dv a d0 l0 c0 m0 v x → Past rest (Rd a d l c (v ++ rest))) → ((m0 e0 : ℕ) (w : List (Token K V)) (y : C) (m : ℕ) → Dv z d0 l0 m0 e0 w y → Past rest (Rd z d l m (w ++ rest)))
               → Past rest (Rd (g.then_if a goes z) d l c (u ++ rest))
           go x None p fore back = past_then rest (Rd a d l c (u ++ rest)) (λ x m r. if_goes (goes x && at_first (fst z) r) x m r (Rd z d l m r)) (fore u x e0 p)
               (λ x m. past_goes (goes x) (fst z) (Rd z d l m) x m (λ t rest is. next _ z ok.1 d l m t rest is) rest) (λ x m r. lies_goes (goes x && at_first (fst z) r) x m r (Rd z d l m r) (lies z d l m r))

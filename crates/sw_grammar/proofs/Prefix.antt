@@ -1,7 +1,7 @@
 -- What begins a text begins one as far as it is cut off.
 use Rattle.std.proofs.Common.{◌≡◌, ℕ, zero, suc, Bool, true, ◌⊎◌, inl, inr, List, [], ◌∷◌, ◌++◌, Option, Some, None, refl, sym, ap, ◌∙◌, subst, ⊎_elim, append_assoc, append-nil}
 use Rattle.sw_grammar.specs.Grammar as g
-use Rattle.sw_grammar.specs.Grammar.{Part, Room, Counted, Each, Then, Heads, Derives_by, Derives, Begins_by, Begins, Begun, Spells}
+use Rattle.sw_grammar.specs.Grammar.{Token, Part, Room, Counted, Each, Then, Heads, Derives_by, Derives, Begins_by, Begins, Begun, Spells}
 use Rattle.sw_grammar.proofs.Grow.{begins_nil_by, begins_nil}
 
 -- two cuts of one list: the first is within the second's front, or goes beyond it
@@ -32,7 +32,7 @@ each_front {T} {A} D B nil h (x ∷ xs) c e u v (a, b, m, eu, p, q) = ⊎_elim
     (each_front D B nil h xs m e k.0 v (subst (λ b. Each D m e b xs) k.2 q)))
     (cut u v a b eu)
 
-heads_front : {T : Type 0} (f : T → Bool) (u v : List T) → Heads f (u ++ v) → Heads f u
+heads_front : {K V : Type 0} (f : K → Bool) (u v : List (Token K V)) → Heads f (u ++ v) → Heads f u
 heads_front f [] v h = tt
 heads_front f (t ∷ u) v h = h
 
@@ -45,18 +45,18 @@ then_front D E goes B B' h k c e u v x (Some y) (a, b, m, eu, p, is, q) = ⊎_el
     (λ s. inr (a, s.0, x, m, s.1, p, is, k m e s.0 v y (subst (λ b. E m e b y) s.2 q)))
     (cut u v a b eu)
 
-module _ (T V S : Type 0) (Sort : S → Type 0) (face : T → V) (rule : (s : S) → Part T V S Sort (Sort s)) where
-  module _ (D : (s : S) → ℕ → ℕ → ℕ → ℕ → List T → Sort s → Type 0) (B : (s : S) → ℕ → ℕ → ℕ → List T → Type 0)
-      (nil : (s : S) (d l c : ℕ) → B s d l c []) (ht : (s : S) (d l c e : ℕ) (u v : List T) (x : Sort s) → D s d l c e (u ++ v) x → B s d l c u) where
-    abbrev Dv : {A : Type 0} → Part T V S Sort A → ℕ → ℕ → ℕ → ℕ → List T → A → Type 0
-    Dv a d l c e u x = Derives_by T V S Sort face rule D a d l c e u x
+module _ (K V S : Type 0) (Sort : S → Type 0) (rule : (s : S) → Part K V S Sort (Sort s)) where
+  module _ (D : (s : S) → ℕ → ℕ → ℕ → ℕ → List (Token K V) → Sort s → Type 0) (B : (s : S) → ℕ → ℕ → ℕ → List (Token K V) → Type 0)
+      (nil : (s : S) (d l c : ℕ) → B s d l c []) (ht : (s : S) (d l c e : ℕ) (u v : List (Token K V)) (x : Sort s) → D s d l c e (u ++ v) x → B s d l c u) where
+    abbrev Dv : {A : Type 0} → Part K V S Sort A → ℕ → ℕ → ℕ → ℕ → List (Token K V) → A → Type 0
+    Dv a d l c e u x = Derives_by K V S Sort rule D a d l c e u x
 
-    abbrev Bv : {A : Type 0} → Part T V S Sort A → ℕ → ℕ → ℕ → List T → Type 0
-    Bv a d l c u = Begins_by T V S Sort face rule D B a d l c u
+    abbrev Bv : {A : Type 0} → Part K V S Sort A → ℕ → ℕ → ℕ → List (Token K V) → Type 0
+    Bv a d l c u = Begins_by K V S Sort rule D B a d l c u
 
-    front_D : {A : Type 0} (a : Part T V S Sort A) (d l c e : ℕ) (u v : List T) (x : A) → Dv a d l c e (u ++ v) x → Bv a d l c u
+    front_D : {A : Type 0} (a : Part K V S Sort A) (d l c e : ℕ) (u v : List (Token K V)) (x : A) → Dv a d l c e (u ++ v) x → Bv a d l c u
     front_D (g.mark f) d l c e [] v x p = tt
-    front_D (g.mark f) d l c e (t' ∷ u) v x (t, eu, is, ex, ec) = let same : t ≡ t' = cc in let end : u ++ v ≡ [] = cc in (front_nil u v end, subst (λ t. f t ≡ true) same is)
+    front_D (g.mark f) d l c e (t' ∷ u) v x (t, eu, is, ex, ec) = let same : t ≡ t' = cc in let end : u ++ v ≡ [] = cc in (front_nil u v end, subst (λ (t : Token K V). f t.sight ≡ true) same is)
     front_D (g.sym s) d l c e u v x p = ht s d l c e u v x p
     front_D (g.both a b) d l c e u v x (v1, w1, m, eu, p, q) = ⊎_elim
         (λ k. inl (front_D a d l c m u k.0 x.0 (subst (λ i. Dv a d l c m i x.0) k.1 p)))
@@ -66,7 +66,7 @@ module _ (T V S : Type 0) (Sort : S → Type 0) (face : T → V) (rule : (s : S)
     front_D (g.either a b) d l c e u v x (inr p) = inr (front_D b d l c e u v x p)
     front_D (g.maybe a) d l c e u v None (eu, ec) = inl (front_nil u v eu)
     front_D (g.maybe a) d l c e u v (Some x) p = inr (front_D a d l c e u v x p)
-    front_D (g.many a) d l c e u v xs p = each_front (Dv a d l) (Bv a d l) (begins_nil_by T V S Sort face rule D B nil a d l) (front_D a d l) xs c e u v p
+    front_D (g.many a) d l c e u v xs p = each_front (Dv a d l) (Bv a d l) (begins_nil_by K V S Sort rule D B nil a d l) (front_D a d l) xs c e u v p
     front_D (g.then_if a goes b) d l c e u v x p = then_front (Dv a d l) (Dv b d l) goes (Bv a d l) (Bv b d l) (front_D a d l) (front_D b d l) c e u v x.0 x.1 p
     front_D (g.when f a) d l c e u v x (hd, p) = (heads_front f u v hd, front_D a d l c e u v x p)
     front_D (g.nest a) zero l c e u v x p = elim p [ ]
@@ -76,8 +76,8 @@ module _ (T V S : Type 0) (Sort : S → Type 0) (face : T → V) (rule : (s : S)
     front_D (g.limited a) d l c e u v x (m, p, ec) = front_D a d l l m u v x p
     front_D (g.gives f a) d l c e u v y (x, p, ey) = front_D a d l c e u v x p
 
-    module _ (hb : (s : S) (d l c : ℕ) (u v : List T) → B s d l c (u ++ v) → B s d l c u) where
-      front_B : {A : Type 0} (a : Part T V S Sort A) (d l c : ℕ) (u v : List T) → Bv a d l c (u ++ v) → Bv a d l c u
+    module _ (hb : (s : S) (d l c : ℕ) (u v : List (Token K V)) → B s d l c (u ++ v) → B s d l c u) where
+      front_B : {A : Type 0} (a : Part K V S Sort A) (d l c : ℕ) (u v : List (Token K V)) → Bv a d l c (u ++ v) → Bv a d l c u
       front_B (g.mark f) d l c [] v p = tt
       front_B (g.mark f) d l c (t ∷ u) v (eu, is) = (front_nil u v eu, is)
       front_B (g.sym s) d l c u v p = hb s d l c u v p
@@ -108,18 +108,18 @@ module _ (T V S : Type 0) (Sort : S → Type 0) (face : T → V) (rule : (s : S)
       front_B (g.limited a) d l c u v p = front_B a d l l u v p
       front_B (g.gives f a) d l c u v p = front_B a d l c u v p
 
-  front_text : (n : ℕ) (s : S) (d l c e : ℕ) (u v : List T) (x : Sort s) → Derives T V S Sort face rule n s d l c e (u ++ v) x → Begins T V S Sort face rule n s d l c u
+  front_text : (n : ℕ) (s : S) (d l c e : ℕ) (u v : List (Token K V)) (x : Sort s) → Derives K V S Sort rule n s d l c e (u ++ v) x → Begins K V S Sort rule n s d l c u
   front_text zero s d l c e u v x p = elim p [ ]
-  front_text (suc n) s d l c e u v x p = front_D (Derives T V S Sort face rule n) (Begins T V S Sort face rule n) (begins_nil T V S Sort face rule n) (front_text n) (rule s) d l c e u v x p
+  front_text (suc n) s d l c e u v x p = front_D (Derives K V S Sort rule n) (Begins K V S Sort rule n) (begins_nil K V S Sort rule n) (front_text n) (rule s) d l c e u v x p
 
-  front_begun : (n : ℕ) (s : S) (d l c : ℕ) (u v : List T) → Begins T V S Sort face rule n s d l c (u ++ v) → Begins T V S Sort face rule n s d l c u
+  front_begun : (n : ℕ) (s : S) (d l c : ℕ) (u v : List (Token K V)) → Begins K V S Sort rule n s d l c (u ++ v) → Begins K V S Sort rule n s d l c u
   front_begun zero s d l c u v eu = front_nil u v eu
-  front_begun (suc n) s d l c u v p = front_B (Derives T V S Sort face rule n) (Begins T V S Sort face rule n) (begins_nil T V S Sort face rule n) (front_text n) (front_begun n) (rule s) d l c u v p
+  front_begun (suc n) s d l c u v p = front_B (Derives K V S Sort rule n) (Begins K V S Sort rule n) (begins_nil K V S Sort rule n) (front_text n) (front_begun n) (rule s) d l c u v p
 
   -- what begins a text begins one as far as it is cut off
-  pub begun_front : (s : S) (room : Room) (u v : List T) → Begun T V S Sort face rule s room (u ++ v) → Begun T V S Sort face rule s room u
+  pub begun_front : (s : S) (room : Room) (u v : List (Token K V)) → Begun K V S Sort rule s room (u ++ v) → Begun K V S Sort rule s room u
   begun_front s room u v (n, p) = (n, front_begun n s room.brackets room.limit room.left u v p)
 
   -- the front of a text begins one
-  pub spelt_front : (s : S) (room : Room) (u v : List T) (x : Sort s) → Spells T V S Sort face rule s room (u ++ v) x → Begun T V S Sort face rule s room u
+  pub spelt_front : (s : S) (room : Room) (u v : List (Token K V)) (x : Sort s) → Spells K V S Sort rule s room (u ++ v) x → Begun K V S Sort rule s room u
   spelt_front s room u v x (n, e, p) = (n, front_text n s room.brackets room.limit room.left e u v x p)

@@ -1,7 +1,7 @@
 -- What a reader answers is so: the tokens that it took derive the value, or begin a text up to the refused one.
 use Rattle.std.proofs.Common.{◌≡◌, ◌≤◌, ◌+◌, ◌⊎◌, inl, inr, ℕ, zero, suc, Bool, true, false, cond, ◌&&◌, List, [], ◌∷◌, ◌++◌, length, Option, Some, None, refl, sym, ap, ◌∙◌, subst, append_assoc, append-nil, arith}
 use Rattle.sw_grammar.specs.Grammar as g
-use Rattle.sw_grammar.specs.Grammar.{Part, Counted, Each, Then, Heads, Derives_by, Derives, Begins_by, Begins}
+use Rattle.sw_grammar.specs.Grammar.{Token, Part, Counted, Each, Then, Heads, Derives_by, Derives, Begins_by, Begins}
 use Rattle.sw_grammar.specs.Reading.{full, stuck, Out, got, bad, spent, ◌>>=◌, at_first, if_goes, one, no_room, turns, first, read_by, read}
 use Rattle.sw_grammar.specs.Deciding.{Decided, IsDecided}
 use Rattle.sw_grammar.proofs.Grow.{begins_nil, begins_nil_by, grow_part, grow_begun_part}
@@ -65,24 +65,24 @@ pub many_more : {T A : Type 0} (D : Counted T A) (B : ℕ → List T → Type 0)
 many_more D B nil c e v w x h (inl ew) = inr (v, [], x ∷ [], e, ap (λ l. v ++ l) ew, (v, [], e, sym (append-nil v), h, (refl, refl)), nil e)
 many_more D B nil c e v w x h (inr (a, b, xs, m, ew, each, q)) = inr (v ++ a, b, x ∷ xs, m, ap (λ l. v ++ l) ew ∙ sym (append_assoc v a b), (v, a, e, refl, h, each), q)
 
-module _ {T A : Type 0} (D : Counted T A) (B : ℕ → List T → Type 0) (F F'' : List T → Type 0) (nil : (c : ℕ) → B c [])
-    (fa : (u : List T) → F u → F'' u) (fb : (c e : ℕ) (v : List T) (x : A) → D c e v x → (w : List T) → F'' w → F'' (v ++ w)) where
-  sound_more : (c e : ℕ) (ts u rest : List T) (x : A) → ts ≡ u ++ rest → D c e u x
-      → (o : Out T (List A)) → Sound (Each D e) (Many D B e) F'' rest o → Sound (Each D c) (Many D B c) F'' ts (o >>= (λ xs m r. got (x ∷ xs) m r))
+module _ {K V A : Type 0} (D : Counted (Token K V) A) (B : ℕ → List (Token K V) → Type 0) (F F'' : List (Token K V) → Type 0) (nil : (c : ℕ) → B c [])
+    (fa : (u : List (Token K V)) → F u → F'' u) (fb : (c e : ℕ) (v : List (Token K V)) (x : A) → D c e v x → (w : List (Token K V)) → F'' w → F'' (v ++ w)) where
+  sound_more : (c e : ℕ) (ts u rest : List (Token K V)) (x : A) → ts ≡ u ++ rest → D c e u x
+      → (o : Out (Token K V) (List A)) → Sound (Each D e) (Many D B e) F'' rest o → Sound (Each D c) (Many D B c) F'' ts (o >>= (λ xs m r. got (x ∷ xs) m r))
   sound_more c e ts u rest x eu h (got xs m r) (w, e', h') = (u ++ w, joined ts u w rest r eu e', (u, w, e, refl, h, h'))
   sound_more c e ts u rest x eu h (bad full r) (w, t, r', er, e', b, l) =
       (u ++ w, t, r', er, joined ts u w rest r eu e', many_more D B nil c e u w x h b, subst F'' (sym (append_assoc u w (t ∷ []))) (fb c e u x h (w ++ t ∷ []) l))
   sound_more c e ts u rest x eu h (bad stuck r) (w, e', b) = (u ++ w, joined ts u w rest r eu e', many_more D B nil c e u w x h b)
   sound_more c e ts u rest x eu h spent h' = tt
 
-  sound_item : (q : ℕ → List T → Out T (List A)) → ((e : ℕ) (rest : List T) → Sound (Each D e) (Many D B e) F'' rest (q e rest))
-      → (c : ℕ) (ts : List T) (o : Out T A) → Sound (D c) (B c) F ts o → Sound (Each D c) (Many D B c) F'' ts (o >>= (λ x e rest. q e rest >>= (λ xs m r. got (x ∷ xs) m r)))
+  sound_item : (q : ℕ → List (Token K V) → Out (Token K V) (List A)) → ((e : ℕ) (rest : List (Token K V)) → Sound (Each D e) (Many D B e) F'' rest (q e rest))
+      → (c : ℕ) (ts : List (Token K V)) (o : Out (Token K V) A) → Sound (D c) (B c) F ts o → Sound (Each D c) (Many D B c) F'' ts (o >>= (λ x e rest. q e rest >>= (λ xs m r. got (x ∷ xs) m r)))
   sound_item q again c ts (got x e rest) (u, eu, d) = sound_more c e ts u rest x eu d (q e rest) (again e rest)
   sound_item q again c ts (bad full rest) (u, t, r, er, e, b, l) = (u, t, r, er, e, inr ([], u, [], c, refl, (refl, refl), b), fa (u ++ t ∷ []) l)
   sound_item q again c ts (bad stuck rest) (u, e, b) = (u, e, inr ([], u, [], c, refl, (refl, refl), b))
   sound_item q again c ts spent s = tt
 
-  pub sound_turns : (f : T → Bool) (p : ℕ → List T → Out T A) → ((c : ℕ) (ts : List T) → Sound (D c) (B c) F ts (p c ts)) → (k c : ℕ) (ts : List T) → Sound (Each D c) (Many D B c) F'' ts (turns f p k c ts)
+  pub sound_turns : (f : K → Bool) (p : ℕ → List (Token K V) → Out (Token K V) A) → ((c : ℕ) (ts : List (Token K V)) → Sound (D c) (B c) F ts (p c ts)) → (k c : ℕ) (ts : List (Token K V)) → Sound (Each D c) (Many D B c) F'' ts (turns f p k c ts)
   sound_turns f p h zero c ts = ([], refl, (refl, refl))
   sound_turns f p h (suc k) c ts =
       elim (at_first f ts) as (λ b. Sound (Each D c) (Many D B c) F'' ts (cond b (p c ts >>= (λ x e rest. turns f p k e rest >>= (λ xs m r. got (x ∷ xs) m r))) (got [] c ts)))
@@ -93,13 +93,13 @@ module _ {T A : Type 0} (D : Counted T A) (B : ℕ → List T → Type 0) (F F''
 abbrev Then_b : {T A : Type 0} → (List T → Type 0) → (ℕ → List T → A → Type 0) → (A → Bool) → (ℕ → List T → Type 0) → List T → Type 0
 Then_b {T} {A} B D goes B' u = B u ⊎ ((v : List T) × (w : List T) × (x : A) × (e : ℕ) × (u ≡ v ++ w) × D e v x × (goes x ≡ true) × B' e w)
 
-sound_then : {T A C : Type 0} (c : ℕ) (D : Counted T A) (B F : List T → Type 0) (E : Counted T C) (B' : ℕ → List T → Type 0) (F' F'' : List T → Type 0) (goes : A → Bool) (f : T → Bool)
-    → ((u : List T) → F u → F'' u) → ((e : ℕ) (v : List T) (x : A) → D c e v x → goes x ≡ true → (w : List T) → F' w → F'' (v ++ w))
-    → (ts : List T) (o : Out T A) (q : ℕ → List T → Out T C) → Sound (D c) B F ts o → ((e : ℕ) (rest : List T) → Sound (E e) (B' e) F' rest (q e rest))
+sound_then : {K V A C : Type 0} (c : ℕ) (D : Counted (Token K V) A) (B F : List (Token K V) → Type 0) (E : Counted (Token K V) C) (B' : ℕ → List (Token K V) → Type 0) (F' F'' : List (Token K V) → Type 0) (goes : A → Bool) (f : K → Bool)
+    → ((u : List (Token K V)) → F u → F'' u) → ((e : ℕ) (v : List (Token K V)) (x : A) → D c e v x → goes x ≡ true → (w : List (Token K V)) → F' w → F'' (v ++ w))
+    → (ts : List (Token K V)) (o : Out (Token K V) A) (q : ℕ → List (Token K V) → Out (Token K V) C) → Sound (D c) B F ts o → ((e : ℕ) (rest : List (Token K V)) → Sound (E e) (B' e) F' rest (q e rest))
     → Sound (λ c' u (z : A × Option C). Then D E goes c c' u z.0 z.1) (Then_b B (D c) goes B') F'' ts (o >>= (λ x e rest. if_goes (goes x && at_first f rest) x e rest (q e rest)))
-sound_then {T} {A} {C} c D B F E B' F' F'' goes f fa fb ts (got x e rest) q (u, eu, h) hq = go (goes x) refl (at_first f rest)
+sound_then {K} {V} {A} {C} c D B F E B' F' F'' goes f fa fb ts (got x e rest) q (u, eu, h) hq = go (goes x) refl (at_first f rest)
   where
-    second : goes x ≡ true → (o : Out T C) → Sound (E e) (B' e) F' rest o
+    second : goes x ≡ true → (o : Out (Token K V) C) → Sound (E e) (B' e) F' rest o
         → Sound (λ c' u (z : A × Option C). Then D E goes c c' u z.0 z.1) (Then_b B (D c) goes B') F'' ts (if_goes true x e rest o)
     second is (got y c' r) (w, e', h') = (u ++ w, joined ts u w rest r eu e', (u, w, e, refl, h, is, h'))
     second is (bad full r) (w, t, r', er, e', h', l) =
@@ -118,19 +118,19 @@ sound_then c D B F E B' F' F'' goes f fa fb ts spent q h hq = tt
 
 -- ---- a first token that passes a test
 
-heads_of : {T : Type 0} (f : T → Bool) (ts u rest : List T) → at_first f ts ≡ true → ts ≡ u ++ rest → Heads f u
+heads_of : {K V : Type 0} (f : K → Bool) (ts u rest : List (Token K V)) → at_first f ts ≡ true → ts ≡ u ++ rest → Heads f u
 heads_of f ts [] rest h e = tt
 heads_of f ts (t ∷ u) rest h e = sym (ap (at_first f) e) ∙ h
 
-heads_next : {T : Type 0} (f : T → Bool) (ts u rest r : List T) (t : T) → at_first f ts ≡ true → ts ≡ u ++ rest → rest ≡ t ∷ r → Heads f (u ++ t ∷ [])
+heads_next : {K V : Type 0} (f : K → Bool) (ts u rest r : List (Token K V)) (t : (Token K V)) → at_first f ts ≡ true → ts ≡ u ++ rest → rest ≡ t ∷ r → Heads f (u ++ t ∷ [])
 heads_next f ts [] rest r t h e er = sym (ap (at_first f) (e ∙ er)) ∙ h
 heads_next f ts (t' ∷ u) rest r t h e er = sym (ap (at_first f) e) ∙ h
 
-sound_when : {T A : Type 0} (f : T → Bool) (D : ℕ → List T → A → Type 0) (B F F'' : List T → Type 0) → B [] → ((u : List T) → Heads f u → F u → F'' u) → (ts : List T) (o : Out T A) → Sound D B F ts o
+sound_when : {K V A : Type 0} (f : K → Bool) (D : ℕ → List (Token K V) → A → Type 0) (B F F'' : List (Token K V) → Type 0) → B [] → ((u : List (Token K V)) → Heads f u → F u → F'' u) → (ts : List (Token K V)) (o : Out (Token K V) A) → Sound D B F ts o
     → Sound (λ c u x. Heads f u × D c u x) (λ u. Heads f u × B u) F'' ts (cond (at_first f ts) o (bad stuck ts))
-sound_when {T} {A} f D B F F'' nil hf ts o h = go (at_first f ts) refl
+sound_when {K} {V} {A} f D B F F'' nil hf ts o h = go (at_first f ts) refl
   where
-    kept : (o : Out T A) → at_first f ts ≡ true → Sound D B F ts o → Sound (λ c u x. Heads f u × D c u x) (λ u. Heads f u × B u) F'' ts o
+    kept : (o : Out (Token K V) A) → at_first f ts ≡ true → Sound D B F ts o → Sound (λ c u x. Heads f u × D c u x) (λ u. Heads f u × B u) F'' ts o
     kept (got x c rest) e (u, eu, p) = (u, eu, (heads_of f ts u rest e eu, p))
     kept (bad full rest) e (u, t, r, er, eu, p, l) = (u, t, r, er, eu, (heads_of f ts u rest e eu, p), hf (u ++ t ∷ []) (heads_next f ts u rest r t e eu er) l)
     kept (bad stuck rest) e (u, eu, p) = (u, eu, (heads_of f ts u rest e eu, p))
@@ -142,88 +142,88 @@ sound_when {T} {A} f D B F F'' nil hf ts o h = go (at_first f ts) refl
 
 -- ---- no room
 
-sound_no_room : {T A : Type 0} (f : T → Bool) (D : ℕ → List T → A → Type 0) (B F : List T → Type 0) → B [] → ((t : T) → f t ≡ true → F (t ∷ [])) → (ts : List T) → Sound D B F ts (no_room f ts)
+sound_no_room : {K V A : Type 0} (f : K → Bool) (D : ℕ → List (Token K V) → A → Type 0) (B F : List (Token K V) → Type 0) → B [] → ((t : (Token K V)) → f t.sight ≡ true → F (t ∷ [])) → (ts : List (Token K V)) → Sound D B F ts (no_room f ts)
 sound_no_room f D B F nil h [] = ([], refl, nil)
-sound_no_room {T} {A} f D B F nil h (t ∷ ts) = go (f t) refl
+sound_no_room {K} {V} {A} f D B F nil h (t ∷ ts) = go (f t.sight) refl
   where
-    go : (b : Bool) → f t ≡ b → Sound D B F (t ∷ ts) (cond b (bad full (t ∷ ts)) (bad stuck (t ∷ ts)))
+    go : (b : Bool) → f t.sight ≡ b → Sound D B F (t ∷ ts) (cond b (bad full (t ∷ ts)) (bad stuck (t ∷ ts)))
     go true e = ([], t, ts, refl, refl, nil, h t e)
     go false e = ([], refl, nil)
 
-module _ (T V S : Type 0) (Sort : S → Type 0) (face : T → V) (rule : (s : S) → Part T V S Sort (Sort s)) (heads : S → T → Bool) (empties : S → Bool) (tails : S → T → Bool) where
-  abbrev fst : {A : Type 0} → Part T V S Sort A → T → Bool
-  fst a = first T V S Sort face rule heads empties a
+module _ (K V S : Type 0) (Sort : S → Type 0) (rule : (s : S) → Part K V S Sort (Sort s)) (heads : S → K → Bool) (empties : S → Bool) (tails : S → K → Bool) where
+  abbrev fst : {A : Type 0} → Part K V S Sort A → K → Bool
+  fst a = first K V S Sort rule heads empties a
 
-  abbrev Ok : {A : Type 0} → Part T V S Sort A → Type 0
-  Ok a = Decided T V S Sort face rule heads empties tails a
+  abbrev Ok : {A : Type 0} → Part K V S Sort A → Type 0
+  Ok a = Decided K V S Sort rule heads empties tails a
 
-  abbrev Dn : ℕ → {A : Type 0} → Part T V S Sort A → ℕ → ℕ → ℕ → ℕ → List T → A → Type 0
-  Dn n a d l c e u x = Derives_by T V S Sort face rule (Derives T V S Sort face rule n) a d l c e u x
+  abbrev Dn : ℕ → {A : Type 0} → Part K V S Sort A → ℕ → ℕ → ℕ → ℕ → List (Token K V) → A → Type 0
+  Dn n a d l c e u x = Derives_by K V S Sort rule (Derives K V S Sort rule n) a d l c e u x
 
-  abbrev Bn : ℕ → {A : Type 0} → Part T V S Sort A → ℕ → ℕ → ℕ → List T → Type 0
-  Bn n a d l c u = Begins_by T V S Sort face rule (Derives T V S Sort face rule n) (Begins T V S Sort face rule n) a d l c u
+  abbrev Bn : ℕ → {A : Type 0} → Part K V S Sort A → ℕ → ℕ → ℕ → List (Token K V) → Type 0
+  Bn n a d l c u = Begins_by K V S Sort rule (Derives K V S Sort rule n) (Begins K V S Sort rule n) a d l c u
 
-  abbrev Lg : {A : Type 0} → Part T V S Sort A → List T → Type 0
-  Lg a u = Large T V S Sort face rule heads empties tails a u
+  abbrev Lg : {A : Type 0} → Part K V S Sort A → List (Token K V) → Type 0
+  Lg a u = Large K V S Sort rule heads empties tails a u
 
   -- ---- what begins in large rooms goes on doing so
 
-  large_map : {A C : Type 0} (a : Part T V S Sort A) (b : Part T V S Sort C) (u u' : List T) → ((n d l c : ℕ) → Bn n a d l c u → Bn n b d l c u') → Lg a u → Lg b u'
+  large_map : {A C : Type 0} (a : Part K V S Sort A) (b : Part K V S Sort C) (u u' : List (Token K V)) → ((n d l c : ℕ) → Bn n a d l c u → Bn n b d l c u') → Lg a u → Lg b u'
   large_map a b u u' h (n, (m, p)) = (n, (m, λ d l c hd hl hc. h n d l c (p d l c hd hl hc)))
 
-  large_nest : {A : Type 0} (a : Part T V S Sort A) (u : List T) → Lg a u → Lg (g.nest a) u
+  large_nest : {A : Type 0} (a : Part K V S Sort A) (u : List (Token K V)) → Lg a u → Lg (g.nest a) u
   large_nest {A} a u (n, (m, p)) = (n, (suc m, go))
     where
       go : (d l c : ℕ) → suc m ≤ d → suc m ≤ l → suc m ≤ c → Bn n (g.nest a) d l c u
       go zero l c hd hl hc = absurd (omega (arith, hd))
       go (suc d) l c hd hl hc = p d l c (omega (arith, hd)) (omega (arith, hl)) (omega (arith, hc))
 
-  large_counts : {A : Type 0} (a : Part T V S Sort A) (u : List T) → Lg a u → Lg (g.counts a) u
+  large_counts : {A : Type 0} (a : Part K V S Sort A) (u : List (Token K V)) → Lg a u → Lg (g.counts a) u
   large_counts {A} a u (n, (m, p)) = (n, (suc m, go))
     where
       go : (d l c : ℕ) → suc m ≤ d → suc m ≤ l → suc m ≤ c → Bn n (g.counts a) d l c u
       go d l zero hd hl hc = absurd (omega (arith, hc))
       go d l (suc c) hd hl hc = p d l c (omega (arith, hd)) (omega (arith, hl)) (omega (arith, hc))
 
-  large_limited : {A : Type 0} (a : Part T V S Sort A) (u : List T) → Lg a u → Lg (g.limited a) u
+  large_limited : {A : Type 0} (a : Part K V S Sort A) (u : List (Token K V)) → Lg a u → Lg (g.limited a) u
   large_limited a u (n, (m, p)) = (n, (m, λ d l c hd hl hc. p d l l hd hl hl))
 
   -- behind a text of the part before
-  large_behind : {A C Z : Type 0} (k : ℕ) (a : Part T V S Sort A) (b : Part T V S Sort C) (z : Part T V S Sort Z) (d0 l0 c0 e0 : ℕ) (v : List T) (x : A) → Dn k a d0 l0 c0 e0 v x → (w : List T)
+  large_behind : {A C Z : Type 0} (k : ℕ) (a : Part K V S Sort A) (b : Part K V S Sort C) (z : Part K V S Sort Z) (d0 l0 c0 e0 : ℕ) (v : List (Token K V)) (x : A) → Dn k a d0 l0 c0 e0 v x → (w : List (Token K V))
       → ((n d l c e : ℕ) → Dn n a d l c e v x → Bn n b d l e w → Bn n z d l c (v ++ w)) → Lg b w → Lg z (v ++ w)
   large_behind k a b z d0 l0 c0 e0 v x h w join (n, (m, p)) = (
     k + n,
     (
       m + (d0 + (l0 + c0)),
       λ d l c hd hl hc.
-          let (e, ge, h') = grow_part T V S Sort face rule k (k + n) (omega arith) a d0 l0 c0 e0 v x h d l c (omega (arith, hd)) (omega (arith, hl)) (omega (arith, hc)) in
-          join (k + n) d l c e h' (grow_begun_part T V S Sort face rule n (k + n) (omega arith) b d l e w (p d l e (omega (arith, hd)) (omega (arith, hl)) (omega (arith, ge, hc))) d l e (omega arith) (omega arith) (omega arith)),
+          let (e, ge, h') = grow_part K V S Sort rule k (k + n) (omega arith) a d0 l0 c0 e0 v x h d l c (omega (arith, hd)) (omega (arith, hl)) (omega (arith, hc)) in
+          join (k + n) d l c e h' (grow_begun_part K V S Sort rule n (k + n) (omega arith) b d l e w (p d l e (omega (arith, hd)) (omega (arith, hl)) (omega (arith, ge, hc))) d l e (omega arith) (omega arith) (omega arith)),
     ),
   )
 
-  module _ (rank : S → ℕ) (width : ℕ) (fine : IsDecided T V S Sort face rule heads empties tails rank width) where
-    abbrev Fine : ℕ → {A : Type 0} → Part T V S Sort A → ℕ → ℕ → ℕ → List T → Out T A → Type 0
+  module _ (rank : S → ℕ) (width : ℕ) (fine : IsDecided K V S Sort rule heads empties tails rank width) where
+    abbrev Fine : ℕ → {A : Type 0} → Part K V S Sort A → ℕ → ℕ → ℕ → List (Token K V) → Out (Token K V) A → Type 0
     Fine n a d l c ts o = Sound (Dn n a d l c) (Bn n a d l c) (Lg a) ts o
 
-    nil_n : (n : ℕ) {A : Type 0} (a : Part T V S Sort A) (d l c : ℕ) → Bn n a d l c []
-    nil_n n a d l c = begins_nil_by T V S Sort face rule (Derives T V S Sort face rule n) (Begins T V S Sort face rule n) (begins_nil T V S Sort face rule n) a d l c
+    nil_n : (n : ℕ) {A : Type 0} (a : Part K V S Sort A) (d l c : ℕ) → Bn n a d l c []
+    nil_n n a d l c = begins_nil_by K V S Sort rule (Derives K V S Sort rule n) (Begins K V S Sort rule n) (begins_nil K V S Sort rule n) a d l c
 
-    lead : {A : Type 0} (a : Part T V S Sort A) → Ok a → (t : T) → fst a t ≡ true → Lg a (t ∷ [])
-    lead a ok t is = lead_part T V S Sort face rule heads empties tails rank width fine a ok t is
+    lead : {A : Type 0} (a : Part K V S Sort A) → Ok a → (t : (Token K V)) → fst a t.sight ≡ true → Lg a (t ∷ [])
+    lead a ok t is = lead_part K V S Sort rule heads empties tails rank width fine a ok t is
 
-    sound_one : (n d l c : ℕ) (f : T → Bool) (ts : List T) → Fine n (g.mark f) d l c ts (one face f c ts)
+    sound_one : (n d l c : ℕ) (f : K → Bool) (ts : List (Token K V)) → Fine n (g.mark f) d l c ts (one f c ts)
     sound_one n d l c f [] = ([], refl, tt)
-    sound_one n d l c f (t ∷ ts) = go (f t) refl
+    sound_one n d l c f (t ∷ ts) = go (f t.sight) refl
       where
-        go : (b : Bool) → f t ≡ b → Fine n (g.mark f) d l c (t ∷ ts) (cond b (got (face t) c ts) (bad stuck (t ∷ ts)))
+        go : (b : Bool) → f t.sight ≡ b → Fine n (g.mark f) d l c (t ∷ ts) (cond b (got t.face c ts) (bad stuck (t ∷ ts)))
         go true e = (t ∷ [], refl, (t, refl, e, refl, refl))
         go false e = ([], refl, tt)
 
-    module _ (n : ℕ) (R : (s : S) → ℕ → ℕ → ℕ → List T → Out T (Sort s)) (h : (s : S) (d l c : ℕ) (ts : List T) → Fine n (g.sym s) d l c ts (R s d l c ts)) where
-      abbrev Rd : {A : Type 0} → Part T V S Sort A → ℕ → ℕ → ℕ → List T → Out T A
-      Rd a d l c ts = read_by T V S Sort face rule heads empties R a d l c ts
+    module _ (n : ℕ) (R : (s : S) → ℕ → ℕ → ℕ → List (Token K V) → Out (Token K V) (Sort s)) (h : (s : S) (d l c : ℕ) (ts : List (Token K V)) → Fine n (g.sym s) d l c ts (R s d l c ts)) where
+      abbrev Rd : {A : Type 0} → Part K V S Sort A → ℕ → ℕ → ℕ → List (Token K V) → Out (Token K V) A
+      Rd a d l c ts = read_by K V S Sort rule heads empties R a d l c ts
 
-      pub sound_by : {A : Type 0} (a : Part T V S Sort A) → Ok a → (d l c : ℕ) (ts : List T) → Fine n a d l c ts (Rd a d l c ts)
+      pub sound_by : {A : Type 0} (a : Part K V S Sort A) → Ok a → (d l c : ℕ) (ts : List (Token K V)) → Fine n a d l c ts (Rd a d l c ts)
       sound_by (g.mark f) ok d l c ts = sound_one n d l c f ts
       sound_by (g.sym s) ok d l c ts = h s d l c ts
       sound_by (g.both a b) ok d l c ts =
@@ -258,7 +258,7 @@ module _ (T V S : Type 0) (Sort : S → Type 0) (face : T → V) (rule : (s : S)
       sound_by (g.limited a) ok d l c ts = sound_map _ _ _ _ _ _ (λ x. x) (λ _. c) (λ e u x p. (e, p, refl)) (λ u p. p) (large_limited a) ts (Rd a d l l ts) (sound_by a ok d l l ts)
       sound_by (g.gives f a) ok d l c ts = sound_map _ _ _ _ _ _ f (λ e. e) (λ e u x p. (x, p, refl)) (λ u p. p) (λ u. large_map a (g.gives f a) u u (λ n d l c p. p)) ts (Rd a d l c ts) (sound_by a ok d l c ts)
 
-    pub sound : (n : ℕ) (s : S) (d l c : ℕ) (ts : List T) → Fine n (g.sym s) d l c ts (read T V S Sort face rule heads empties n s d l c ts)
+    pub sound : (n : ℕ) (s : S) (d l c : ℕ) (ts : List (Token K V)) → Fine n (g.sym s) d l c ts (read K V S Sort rule heads empties n s d l c ts)
     sound zero s d l c ts = tt
     sound (suc n) s d l c ts =
-        sound_weak _ _ (Lg (rule s)) _ _ (Lg (g.sym s)) (λ c u x p. p) (λ u p. p) (λ u p. (suc p.0, p.1)) ts _ (sound_by n (read T V S Sort face rule heads empties n) (sound n) (rule s) (fine.table s).decided d l c ts)
+        sound_weak _ _ (Lg (rule s)) _ _ (Lg (g.sym s)) (λ c u x p. p) (λ u p. p) (λ u p. (suc p.0, p.1)) ts _ (sound_by n (read K V S Sort rule heads empties n) (sound n) (rule s) (fine.table s).decided d l c ts)

@@ -1,7 +1,7 @@
 -- What texts and their beginnings begin with; and a text begins one.
 use Rattle.std.proofs.Common.{◌≡◌, ◌⊎◌, inl, inr, ℕ, zero, suc, Bool, true, false, ◌||◌, ◌&&◌, List, [], ◌∷◌, ◌++◌, Option, Some, None, refl, sym, ◌∙◌, subst, append-nil}
 use Rattle.sw_grammar.specs.Grammar as g
-use Rattle.sw_grammar.specs.Grammar.{Part, Counted, Each, Then, Heads, Derives_by, Derives, Begins_by, Begins}
+use Rattle.sw_grammar.specs.Grammar.{Token, Part, Counted, Each, Then, Heads, Derives_by, Derives, Begins_by, Begins}
 use Rattle.sw_grammar.specs.Reading.{or_if, null, first}
 use Rattle.sw_grammar.specs.Deciding.{Decided, IsTable}
 use Rattle.sw_grammar.proofs.Grow.{begins_nil, begins_nil_by}
@@ -55,38 +55,38 @@ clash b p q = cc
 -- ---- what a run begins with
 
 -- an empty run is allowed or not, and the first token of another passes the test
-abbrev pub Starts : {T : Type 0} → Bool → (T → Bool) → List T → Type 0
+abbrev pub Starts : {K V : Type 0} → Bool → (K → Bool) → List (Token K V) → Type 0
 Starts nl f [] = nl ≡ true
-Starts nl f (t ∷ u) = f t ≡ true
+Starts nl f (t ∷ u) = f t.sight ≡ true
 
-pub starts_weak : {T : Type 0} (nl nl' : Bool) (f f' : T → Bool) → (nl ≡ true → nl' ≡ true) → ((t : T) → f t ≡ true → f' t ≡ true) → (u : List T) → Starts nl f u → Starts nl' f' u
+pub starts_weak : {K V : Type 0} (nl nl' : Bool) (f f' : K → Bool) → (nl ≡ true → nl' ≡ true) → ((t : K) → f t ≡ true → f' t ≡ true) → (u : List (Token K V)) → Starts nl f u → Starts nl' f' u
 starts_weak nl nl' f f' hn hf [] h = hn h
-starts_weak nl nl' f f' hn hf (t ∷ u) h = hf t h
+starts_weak nl nl' f f' hn hf (t ∷ u) h = hf t.sight h
 
-starts_and : {T : Type 0} (nl : Bool) (f h : T → Bool) (u : List T) → Heads f u → Starts nl h u → Starts nl (λ t. f t && h t) u
+starts_and : {K V : Type 0} (nl : Bool) (f h : K → Bool) (u : List (Token K V)) → Heads f u → Starts nl h u → Starts nl (λ t. f t && h t) u
 starts_and nl f h [] hd s = s
-starts_and nl f h (t ∷ u) hd s = and_both (f t) (h t) hd s
+starts_and nl f h (t ∷ u) hd s = and_both (f t.sight) (h t.sight) hd s
 
-starts_both : {T : Type 0} (na nb : Bool) (fa fb : T → Bool) (v w : List T) → Starts na fa v → Starts nb fb w → Starts (na && nb) (λ t. or_if na (fa t) (fb t)) (v ++ w)
+starts_both : {K V : Type 0} (na nb : Bool) (fa fb : K → Bool) (v w : List (Token K V)) → Starts na fa v → Starts nb fb w → Starts (na && nb) (λ t. or_if na (fa t) (fb t)) (v ++ w)
 starts_both na nb fa fb [] [] ha hb = and_both na nb ha hb
-starts_both na nb fa fb [] (t ∷ w) ha hb = or_if_right na (fa t) (fb t) ha hb
-starts_both na nb fa fb (t ∷ v) w ha hb = or_if_left na (fa t) (fb t) ha
+starts_both na nb fa fb [] (t ∷ w) ha hb = or_if_right na (fa t.sight) (fb t.sight) ha hb
+starts_both na nb fa fb (t ∷ v) w ha hb = or_if_left na (fa t.sight) (fb t.sight) ha
 
-pub starts_append : {T : Type 0} (nl : Bool) (f : T → Bool) (v w : List T) → Starts nl f v → Starts true f w → Starts true f (v ++ w)
+pub starts_append : {K V : Type 0} (nl : Bool) (f : K → Bool) (v w : List (Token K V)) → Starts nl f v → Starts true f w → Starts true f (v ++ w)
 starts_append nl f [] w hv hw = hw
 starts_append nl f (t ∷ v) w hv hw = hv
 
 -- behind a run that is not empty
-pub starts_front : {T : Type 0} (nl : Bool) (f : T → Bool) (v w : List T) → Starts false f v → Starts nl f (v ++ w)
+pub starts_front : {K V : Type 0} (nl : Bool) (f : K → Bool) (v w : List (Token K V)) → Starts false f v → Starts nl f (v ++ w)
 starts_front nl f [] w h = cc
 starts_front nl f (t ∷ v) w h = h
 
-starts_then : {T A C : Type 0} (f : T → Bool) (D : Counted T A) (E : Counted T C) (goes : A → Bool) → ((c e : ℕ) (u : List T) (x : A) → D c e u x → Starts false f u)
-    → (c e : ℕ) (u : List T) (x : A) (y : Option C) → Then D E goes c e u x y → Starts false f u
+starts_then : {K V A C : Type 0} (f : K → Bool) (D : Counted (Token K V) A) (E : Counted (Token K V) C) (goes : A → Bool) → ((c e : ℕ) (u : List (Token K V)) (x : A) → D c e u x → Starts false f u)
+    → (c e : ℕ) (u : List (Token K V)) (x : A) (y : Option C) → Then D E goes c e u x y → Starts false f u
 starts_then f D E goes hd c e u x None p = hd c e u x p
 starts_then f D E goes hd c e u x (Some y) (v, w, m, eu, p, is, q) = subst (Starts false f) (sym eu) (starts_front false f v w (hd c m v x p))
 
-pub starts_each : {T A : Type 0} (nl : Bool) (f : T → Bool) (D : Counted T A) → ((c e : ℕ) (u : List T) (x : A) → D c e u x → Starts nl f u) → (xs : List A) (c e : ℕ) (u : List T) → Each D c e u xs → Starts true f u
+pub starts_each : {K V A : Type 0} (nl : Bool) (f : K → Bool) (D : Counted (Token K V) A) → ((c e : ℕ) (u : List (Token K V)) (x : A) → D c e u x → Starts nl f u) → (xs : List A) (c e : ℕ) (u : List (Token K V)) → Each D c e u xs → Starts true f u
 starts_each nl f D h [] c e u (eu, ec) = subst (Starts true f) (sym eu) refl
 starts_each nl f D h (x ∷ xs) c e u (v, w, m, eu, p, q) = subst (Starts true f) (sym eu) (starts_append nl f v w (h c m v x p) (starts_each nl f D h xs m e w q))
 
@@ -96,25 +96,25 @@ begins_then : {T A C : Type 0} (D : Counted T A) (E : Counted T C) (goes : A →
 begins_then D E goes B B' hd he c e u x None p = inl (hd c e u x p)
 begins_then D E goes B B' hd he c e u x (Some y) (v, w, m, eu, p, is, q) = inr (v, w, x, m, eu, p, is, he m e w y q)
 
-module _ (T V S : Type 0) (Sort : S → Type 0) (face : T → V) (rule : (s : S) → Part T V S Sort (Sort s)) (heads : S → T → Bool) (empties : S → Bool) (tails : S → T → Bool) where
-  abbrev nul : {A : Type 0} → Part T V S Sort A → Bool
-  nul a = null T V S Sort face rule heads empties a
+module _ (K V S : Type 0) (Sort : S → Type 0) (rule : (s : S) → Part K V S Sort (Sort s)) (heads : S → K → Bool) (empties : S → Bool) (tails : S → K → Bool) where
+  abbrev nul : {A : Type 0} → Part K V S Sort A → Bool
+  nul a = null K V S Sort rule heads empties a
 
-  abbrev fst : {A : Type 0} → Part T V S Sort A → T → Bool
-  fst a = first T V S Sort face rule heads empties a
+  abbrev fst : {A : Type 0} → Part K V S Sort A → K → Bool
+  fst a = first K V S Sort rule heads empties a
 
-  abbrev Ok : {A : Type 0} → Part T V S Sort A → Type 0
-  Ok a = Decided T V S Sort face rule heads empties tails a
+  abbrev Ok : {A : Type 0} → Part K V S Sort A → Type 0
+  Ok a = Decided K V S Sort rule heads empties tails a
 
-  module _ (D : (s : S) → ℕ → ℕ → ℕ → ℕ → List T → Sort s → Type 0) (B : (s : S) → ℕ → ℕ → ℕ → List T → Type 0) where
-    abbrev Dv : {A : Type 0} → Part T V S Sort A → ℕ → ℕ → ℕ → ℕ → List T → A → Type 0
-    Dv a d l c e u x = Derives_by T V S Sort face rule D a d l c e u x
+  module _ (D : (s : S) → ℕ → ℕ → ℕ → ℕ → List (Token K V) → Sort s → Type 0) (B : (s : S) → ℕ → ℕ → ℕ → List (Token K V) → Type 0) where
+    abbrev Dv : {A : Type 0} → Part K V S Sort A → ℕ → ℕ → ℕ → ℕ → List (Token K V) → A → Type 0
+    Dv a d l c e u x = Derives_by K V S Sort rule D a d l c e u x
 
-    abbrev Bv : {A : Type 0} → Part T V S Sort A → ℕ → ℕ → ℕ → List T → Type 0
-    Bv a d l c u = Begins_by T V S Sort face rule D B a d l c u
+    abbrev Bv : {A : Type 0} → Part K V S Sort A → ℕ → ℕ → ℕ → List (Token K V) → Type 0
+    Bv a d l c u = Begins_by K V S Sort rule D B a d l c u
 
-    module _ (h : (s : S) (d l c e : ℕ) (u : List T) (x : Sort s) → D s d l c e u x → Starts (empties s) (heads s) u) where
-      pub starts_D : {A : Type 0} (a : Part T V S Sort A) → Ok a → (d l c e : ℕ) (u : List T) (x : A) → Dv a d l c e u x → Starts (nul a) (fst a) u
+    module _ (h : (s : S) (d l c e : ℕ) (u : List (Token K V)) (x : Sort s) → D s d l c e u x → Starts (empties s) (heads s) u) where
+      pub starts_D : {A : Type 0} (a : Part K V S Sort A) → Ok a → (d l c e : ℕ) (u : List (Token K V)) (x : A) → Dv a d l c e u x → Starts (nul a) (fst a) u
       starts_D (g.mark f) ok d l c e u x (t, eu, is, ex, ec) = subst (Starts false f) (sym eu) is
       starts_D (g.sym s) ok d l c e u x p = h s d l c e u x p
       starts_D (g.both a b) ok d l c e u x (v, w, m, eu, p, q) =
@@ -135,11 +135,11 @@ module _ (T V S : Type 0) (Sort : S → Type 0) (face : T → V) (rule : (s : S)
       starts_D (g.gives f a) ok d l c e u y (x, p, ey) = starts_D a ok d l c e u x p
 
       -- a part that is not empty
-      pub solid : {A : Type 0} (a : Part T V S Sort A) → Ok a → nul a ≡ false → (d l c e : ℕ) (u : List T) (x : A) → Dv a d l c e u x → Starts false (fst a) u
+      pub solid : {A : Type 0} (a : Part K V S Sort A) → Ok a → nul a ≡ false → (d l c e : ℕ) (u : List (Token K V)) (x : A) → Dv a d l c e u x → Starts false (fst a) u
       solid a ok hn d l c e u x p = subst (λ b. Starts b (fst a) u) hn (starts_D a ok d l c e u x p)
 
-      module _ (k : (s : S) (d l c : ℕ) (u : List T) → B s d l c u → Starts true (heads s) u) where
-        pub starts_B : {A : Type 0} (a : Part T V S Sort A) → Ok a → (d l c : ℕ) (u : List T) → Bv a d l c u → Starts true (fst a) u
+      module _ (k : (s : S) (d l c : ℕ) (u : List (Token K V)) → B s d l c u → Starts true (heads s) u) where
+        pub starts_B : {A : Type 0} (a : Part K V S Sort A) → Ok a → (d l c : ℕ) (u : List (Token K V)) → Bv a d l c u → Starts true (fst a) u
         starts_B (g.mark f) ok d l c [] p = refl
         starts_B (g.mark f) ok d l c (t ∷ u) (eu, is) = is
         starts_B (g.sym s) ok d l c u p = k s d l c u p
@@ -165,8 +165,8 @@ module _ (T V S : Type 0) (Sort : S → Type 0) (face : T → V) (rule : (s : S)
         starts_B (g.gives f a) ok d l c u p = starts_B a ok d l c u p
 
     -- a text begins a text
-    module _ (nil : (s : S) (d l c : ℕ) → B s d l c []) (h : (s : S) (d l c e : ℕ) (u : List T) (x : Sort s) → D s d l c e u x → B s d l c u) where
-      pub text_begins : {A : Type 0} (a : Part T V S Sort A) (d l c e : ℕ) (u : List T) (x : A) → Dv a d l c e u x → Bv a d l c u
+    module _ (nil : (s : S) (d l c : ℕ) → B s d l c []) (h : (s : S) (d l c e : ℕ) (u : List (Token K V)) (x : Sort s) → D s d l c e u x → B s d l c u) where
+      pub text_begins : {A : Type 0} (a : Part K V S Sort A) (d l c e : ℕ) (u : List (Token K V)) (x : A) → Dv a d l c e u x → Bv a d l c u
       text_begins (g.mark f) d l c e u x (t, eu, is, ex, ec) = subst (Bv (g.mark f) d l c) (sym eu) (refl, is)
       text_begins (g.sym s) d l c e u x p = h s d l c e u x p
       text_begins (g.both a b) d l c e u x (v, w, m, eu, p, q) = inr (v, w, x.0, m, eu, p, text_begins b d l m e w x.1 q)
@@ -174,7 +174,7 @@ module _ (T V S : Type 0) (Sort : S → Type 0) (face : T → V) (rule : (s : S)
       text_begins (g.either a b) d l c e u x (inr p) = inr (text_begins b d l c e u x p)
       text_begins (g.maybe a) d l c e u None (eu, ec) = inl eu
       text_begins (g.maybe a) d l c e u (Some x) p = inr (text_begins a d l c e u x p)
-      text_begins (g.many a) d l c e u xs p = inr (u, [], xs, e, sym (append-nil u), p, begins_nil_by T V S Sort face rule D B nil a d l e)
+      text_begins (g.many a) d l c e u xs p = inr (u, [], xs, e, sym (append-nil u), p, begins_nil_by K V S Sort rule D B nil a d l e)
       text_begins (g.then_if a goes b) d l c e u x p = begins_then (Dv a d l) (Dv b d l) goes (Bv a d l) (Bv b d l) (text_begins a d l) (text_begins b d l) c e u x.0 x.1 p
       text_begins (g.when f a) d l c e u x (hd, p) = (hd, text_begins a d l c e u x p)
       text_begins (g.nest a) zero l c e u x p = elim p [ ]
@@ -186,22 +186,22 @@ module _ (T V S : Type 0) (Sort : S → Type 0) (face : T → V) (rule : (s : S)
 
   -- ---- for symbols, by each height
 
-  module _ (table : (s : S) → IsTable T V S Sort face rule heads empties tails s) where
-    abbrev Dn : ℕ → (s : S) → ℕ → ℕ → ℕ → ℕ → List T → Sort s → Type 0
-    Dn n = Derives T V S Sort face rule n
+  module _ (table : (s : S) → IsTable K V S Sort rule heads empties tails s) where
+    abbrev Dn : ℕ → (s : S) → ℕ → ℕ → ℕ → ℕ → List (Token K V) → Sort s → Type 0
+    Dn n = Derives K V S Sort rule n
 
-    abbrev Bn : ℕ → (s : S) → ℕ → ℕ → ℕ → List T → Type 0
-    Bn n = Begins T V S Sort face rule n
+    abbrev Bn : ℕ → (s : S) → ℕ → ℕ → ℕ → List (Token K V) → Type 0
+    Bn n = Begins K V S Sort rule n
 
-    pub starts_n : (n : ℕ) (s : S) (d l c e : ℕ) (u : List T) (x : Sort s) → Dn n s d l c e u x → Starts (empties s) (heads s) u
+    pub starts_n : (n : ℕ) (s : S) (d l c e : ℕ) (u : List (Token K V)) (x : Sort s) → Dn n s d l c e u x → Starts (empties s) (heads s) u
     starts_n zero s d l c e u x p = elim p [ ]
     starts_n (suc n) s d l c e u x p =
         starts_weak _ (empties s) _ (heads s) (λ h. sym (table s).empty ∙ h) (table s).head u (starts_D (Dn n) (Bn n) (starts_n n) (rule s) (table s).decided d l c e u x p)
 
-    pub starts_b : (n : ℕ) (s : S) (d l c : ℕ) (u : List T) → Bn n s d l c u → Starts true (heads s) u
+    pub starts_b : (n : ℕ) (s : S) (d l c : ℕ) (u : List (Token K V)) → Bn n s d l c u → Starts true (heads s) u
     starts_b zero s d l c u eu = subst (Starts true (heads s)) (sym eu) refl
     starts_b (suc n) s d l c u p = starts_weak true true _ (heads s) (λ e. e) (table s).head u (starts_B (Dn n) (Bn n) (starts_n n) (starts_b n) (rule s) (table s).decided d l c u p)
 
-  pub text_n : (n : ℕ) (s : S) (d l c e : ℕ) (u : List T) (x : Sort s) → Derives T V S Sort face rule n s d l c e u x → Begins T V S Sort face rule n s d l c u
+  pub text_n : (n : ℕ) (s : S) (d l c e : ℕ) (u : List (Token K V)) (x : Sort s) → Derives K V S Sort rule n s d l c e u x → Begins K V S Sort rule n s d l c u
   text_n zero s d l c e u x p = elim p [ ]
-  text_n (suc n) s d l c e u x p = text_begins (Derives T V S Sort face rule n) (Begins T V S Sort face rule n) (begins_nil T V S Sort face rule n) (text_n n) (rule s) d l c e u x p
+  text_n (suc n) s d l c e u x p = text_begins (Derives K V S Sort rule n) (Begins K V S Sort rule n) (begins_nil K V S Sort rule n) (text_n n) (rule s) d l c e u x p

@@ -2,7 +2,7 @@
 use Rattle.std.proofs.Common.{◌≡◌, ℕ, zero, suc, ◌+◌, ◌*◌, ◌<◌, ◌≤◌, Bool, true, false, cond, ◌&&◌, ◌⊎◌, inl, inr, List, [], ◌∷◌, ◌++◌, length, Option, Some, None, refl, sym, ap, ◌∙◌, subst, arith, length-append, ⊎_elim}
 use Rattle.std.proofs.Math.Nat.{mul-le-mul_left, mul-suc}
 use Rattle.sw_grammar.specs.Grammar as g
-use Rattle.sw_grammar.specs.Grammar.{Part, Derives_by, Derives, Begins_by, Begins}
+use Rattle.sw_grammar.specs.Grammar.{Token, Part, Derives_by, Derives, Begins_by, Begins}
 use Rattle.sw_grammar.specs.Reading.{Why, full, stuck, Out, got, bad, spent, ◌>>=◌, at_first, if_goes, turns, null, first, read_by, read, reads}
 use Rattle.sw_grammar.specs.Deciding.{Decided, IsDecided, Leads}
 use Rattle.sw_grammar.proofs.Starts.{Starts, starts_D, starts_n, clash}
@@ -28,11 +28,11 @@ same_cond : {T A : Type 0} (b : Bool) (x x' y y' : Out T A) → Same x x' → Sa
 same_cond true x x' y y' h k = h
 same_cond false x x' y y' h k = k
 
-same_turns : {T A : Type 0} (f : T → Bool) (p p' : ℕ → List T → Out T A) (most : ℕ) → ((c : ℕ) (ts : List T) → length ts ≤ most → Same (p c ts) (p' c ts))
-    → ((c : ℕ) (ts : List T) (x : A) (e : ℕ) (rest : List T) → p c ts ≡ got x e rest → length rest < length ts) → (k c : ℕ) (ts : List T) → length ts ≤ most → Same (turns f p k c ts) (turns f p' k c ts)
+same_turns : {K V A : Type 0} (f : K → Bool) (p p' : ℕ → List (Token K V) → Out (Token K V) A) (most : ℕ) → ((c : ℕ) (ts : List (Token K V)) → length ts ≤ most → Same (p c ts) (p' c ts))
+    → ((c : ℕ) (ts : List (Token K V)) (x : A) (e : ℕ) (rest : List (Token K V)) → p c ts ≡ got x e rest → length rest < length ts) → (k c : ℕ) (ts : List (Token K V)) → length ts ≤ most → Same (turns f p k c ts) (turns f p' k c ts)
 same_turns f p p' most hp hl zero c ts l = same_got [] c ts
-same_turns {T} {A} f p p' most hp hl (suc k) c ts l =
-    let more : (ℕ → List T → Out T A) → A → ℕ → List T → Out T (List A) = λ p x e rest. turns f p k e rest >>= (λ xs m r. got (x ∷ xs) m r) in
+same_turns {K} {V} {A} f p p' most hp hl (suc k) c ts l =
+    let more : (ℕ → List (Token K V) → Out (Token K V) A) → A → ℕ → List (Token K V) → Out (Token K V) (List A) = λ p x e rest. turns f p k e rest >>= (λ xs m r. got (x ∷ xs) m r) in
     elim (at_first f ts) as (λ b. Same (cond b (p c ts >>= more p) (got [] c ts)) (cond b (p' c ts >>= more p') (got [] c ts))) [
       | true ↦ same_then (p c ts) (p' c ts) (more p) (more p') (hp c ts l) (λ x e rest q. same_then (turns f p k e rest) (turns f p' k e rest) (λ xs m r. got (x ∷ xs) m r) (λ xs m r. got (x ∷ xs) m r)
           (let h = hl c ts x e rest q in same_turns f p p' most hp hl k e rest (omega (arith, h, l))) (λ xs m r _. same_got (x ∷ xs) m r))
@@ -47,8 +47,8 @@ eq_then spent k k' h = refl
 eq_cond : {A : Type 0} (b : Bool) (x x' y : A) → x ≡ x' → cond b x y ≡ cond b x' y
 eq_cond b x x' y e = ap (λ x. cond b x y) e
 
-turns_enough : {T A : Type 0} (f : T → Bool) (p : ℕ → List T → Out T A) → ((c : ℕ) (ts : List T) (x : A) (e : ℕ) (rest : List T) → p c ts ≡ got x e rest → length rest < length ts)
-    → (k m c : ℕ) (ts : List T) → length ts ≤ k → length ts ≤ m → turns f p k c ts ≡ turns f p m c ts
+turns_enough : {K V A : Type 0} (f : K → Bool) (p : ℕ → List (Token K V) → Out (Token K V) A) → ((c : ℕ) (ts : List (Token K V)) (x : A) (e : ℕ) (rest : List (Token K V)) → p c ts ≡ got x e rest → length rest < length ts)
+    → (k m c : ℕ) (ts : List (Token K V)) → length ts ≤ k → length ts ≤ m → turns f p k c ts ≡ turns f p m c ts
 turns_enough f p h zero zero c ts l l' = refl
 turns_enough f p h zero (suc m) c [] l l' = refl
 turns_enough f p h zero (suc m) c (t ∷ ts) l l' = absurd (omega (arith, l))
@@ -57,10 +57,10 @@ turns_enough f p h (suc k) zero c (t ∷ ts) l l' = absurd (omega (arith, l'))
 turns_enough f p h (suc k) (suc m) c ts l l' = eq_cond (at_first f ts) _ _ (got [] c ts)
     (eq_then (p c ts) _ _ (λ x e rest q. ap (λ o. o >>= (λ xs m r. got (x ∷ xs) m r)) (let s = h c ts x e rest q in turns_enough f p h k m e rest (omega (arith, s, l)) (omega (arith, s, l')))))
 
-turns_again : {T A : Type 0} (f : T → Bool) (p : ℕ → List T → Out T A) → ((c : ℕ) (ts : List T) (x : A) (e : ℕ) (rest : List T) → p c ts ≡ got x e rest → length rest < length ts)
-    → (c : ℕ) (ts : List T) → turns f p (length ts) c ts ≡ cond (at_first f ts) (p c ts >>= (λ x e rest. turns f p (length rest) e rest >>= (λ xs m r. got (x ∷ xs) m r))) (got [] c ts)
+turns_again : {K V A : Type 0} (f : K → Bool) (p : ℕ → List (Token K V) → Out (Token K V) A) → ((c : ℕ) (ts : List (Token K V)) (x : A) (e : ℕ) (rest : List (Token K V)) → p c ts ≡ got x e rest → length rest < length ts)
+    → (c : ℕ) (ts : List (Token K V)) → turns f p (length ts) c ts ≡ cond (at_first f ts) (p c ts >>= (λ x e rest. turns f p (length rest) e rest >>= (λ xs m r. got (x ∷ xs) m r))) (got [] c ts)
 turns_again f p h c [] = refl
-turns_again f p h c (t ∷ ts) = eq_cond (f t) _ _ (got [] c (t ∷ ts))
+turns_again f p h c (t ∷ ts) = eq_cond (f t.sight) _ _ (got [] c (t ∷ ts))
     (eq_then (p c (t ∷ ts)) _ _ (λ x e rest q. ap (λ o. o >>= (λ xs m r. got (x ∷ xs) m r)) (let s = h c (t ∷ ts) x e rest q in turns_enough f p h (length ts) (length rest) e rest (omega (arith, s)) (omega arith))))
 
 same_goes : {T A C : Type 0} (b : Bool) (x : A) (c : ℕ) (r : List T) (o o' : Out T C) → Same o o' → Same (if_goes b x c r o) (if_goes b x c r o')
@@ -70,80 +70,80 @@ same_goes false x c r o o' h = (refl, λ e. cc)
 less_room : (w a b : ℕ) → a < b → w + w * a ≤ w * b
 less_room w a b h = let m : w * suc a ≤ w * b = mul-le-mul_left w h in omega (arith, m, mul-suc w a)
 
-module _ (T V S : Type 0) (Sort : S → Type 0) (face : T → V) (rule : (s : S) → Part T V S Sort (Sort s)) (heads : S → T → Bool) (empties : S → Bool) (tails : S → T → Bool)
-    (rank : S → ℕ) (width : ℕ) (fine : IsDecided T V S Sort face rule heads empties tails rank width) where
-  abbrev nul : {A : Type 0} → Part T V S Sort A → Bool
-  nul a = null T V S Sort face rule heads empties a
+module _ (K V S : Type 0) (Sort : S → Type 0) (rule : (s : S) → Part K V S Sort (Sort s)) (heads : S → K → Bool) (empties : S → Bool) (tails : S → K → Bool)
+    (rank : S → ℕ) (width : ℕ) (fine : IsDecided K V S Sort rule heads empties tails rank width) where
+  abbrev nul : {A : Type 0} → Part K V S Sort A → Bool
+  nul a = null K V S Sort rule heads empties a
 
-  abbrev fst : {A : Type 0} → Part T V S Sort A → T → Bool
-  fst a = first T V S Sort face rule heads empties a
+  abbrev fst : {A : Type 0} → Part K V S Sort A → K → Bool
+  fst a = first K V S Sort rule heads empties a
 
-  abbrev Ok : {A : Type 0} → Part T V S Sort A → Type 0
-  Ok a = Decided T V S Sort face rule heads empties tails a
+  abbrev Ok : {A : Type 0} → Part K V S Sort A → Type 0
+  Ok a = Decided K V S Sort rule heads empties tails a
 
-  abbrev Calls : {A : Type 0} → Part T V S Sort A → ℕ → Type 0
-  Calls a r = Leads T V S Sort face rule heads empties tails rank a r
+  abbrev Calls : {A : Type 0} → Part K V S Sort A → ℕ → Type 0
+  Calls a r = Leads K V S Sort rule heads empties tails rank a r
 
   abbrev Reader : Type 0
-  Reader = (s : S) → ℕ → ℕ → ℕ → List T → Out T (Sort s)
+  Reader = (s : S) → ℕ → ℕ → ℕ → List (Token K V) → Out (Token K V) (Sort s)
 
-  abbrev rd : Reader → {A : Type 0} → Part T V S Sort A → ℕ → ℕ → ℕ → List T → Out T A
-  rd R a d l c ts = read_by T V S Sort face rule heads empties R a d l c ts
+  abbrev rd : Reader → {A : Type 0} → Part K V S Sort A → ℕ → ℕ → ℕ → List (Token K V) → Out (Token K V) A
+  rd R a d l c ts = read_by K V S Sort rule heads empties R a d l c ts
 
   abbrev rn : ℕ → Reader
-  rn n = read T V S Sort face rule heads empties n
+  rn n = read K V S Sort rule heads empties n
 
-  abbrev Dn : ℕ → {A : Type 0} → Part T V S Sort A → ℕ → ℕ → ℕ → ℕ → List T → A → Type 0
-  Dn n a d l c e u x = Derives_by T V S Sort face rule (Derives T V S Sort face rule n) a d l c e u x
+  abbrev Dn : ℕ → {A : Type 0} → Part K V S Sort A → ℕ → ℕ → ℕ → ℕ → List (Token K V) → A → Type 0
+  Dn n a d l c e u x = Derives_by K V S Sort rule (Derives K V S Sort rule n) a d l c e u x
 
-  abbrev Bn : ℕ → {A : Type 0} → Part T V S Sort A → ℕ → ℕ → ℕ → List T → Type 0
-  Bn n a d l c u = Begins_by T V S Sort face rule (Derives T V S Sort face rule n) (Begins T V S Sort face rule n) a d l c u
+  abbrev Bn : ℕ → {A : Type 0} → Part K V S Sort A → ℕ → ℕ → ℕ → List (Token K V) → Type 0
+  Bn n a d l c u = Begins_by K V S Sort rule (Derives K V S Sort rule n) (Begins K V S Sort rule n) a d l c u
 
-  lead_width : {A : Type 0} (a : Part T V S Sort A) → Calls a width
-  lead_width a = leads_all T V S Sort face rule heads empties tails rank width fine a
+  lead_width : {A : Type 0} (a : Part K V S Sort A) → Calls a width
+  lead_width a = leads_all K V S Sort rule heads empties tails rank width fine a
 
   -- what is left after a value: as much as before only if the part may be empty
-  abbrev Passed : {A : Type 0} → Part T V S Sort A → List T → List T → Type 0
+  abbrev Passed : {A : Type 0} → Part K V S Sort A → List (Token K V) → List (Token K V) → Type 0
   Passed a ts rest = ((rest ≡ ts) × (nul a ≡ true)) ⊎ (length rest < length ts)
 
-  passed_starts : {A : Type 0} (a : Part T V S Sort A) (ts rest u : List T) → ts ≡ u ++ rest → Starts (nul a) (fst a) u → Passed a ts rest
+  passed_starts : {A : Type 0} (a : Part K V S Sort A) (ts rest u : List (Token K V)) → ts ≡ u ++ rest → Starts (nul a) (fst a) u → Passed a ts rest
   passed_starts a ts rest [] e s = inl (sym e, s)
   passed_starts a ts rest (t ∷ u) e s = inr (subst (λ l. length rest < length l) (sym e) (omega (arith, length-append u rest)))
 
-  passed : (n : ℕ) {A : Type 0} (a : Part T V S Sort A) → Ok a → (d l c : ℕ) (ts : List T) (x : A) (e : ℕ) (rest : List T) → rd (rn n) a d l c ts ≡ got x e rest → Passed a ts rest
+  passed : (n : ℕ) {A : Type 0} (a : Part K V S Sort A) → Ok a → (d l c : ℕ) (ts : List (Token K V)) (x : A) (e : ℕ) (rest : List (Token K V)) → rd (rn n) a d l c ts ≡ got x e rest → Passed a ts rest
   passed n a ok d l c ts x e rest is =
-      let (u, shape, p) = subst (Sound (Dn n a d l c) (Bn n a d l c) (Large T V S Sort face rule heads empties tails a) ts) is
-      (sound_by T V S Sort face rule heads empties tails rank width fine n (rn n) (sound T V S Sort face rule heads empties tails rank width fine n) a ok d l c ts) in
-      passed_starts a ts rest u shape (starts_D T V S Sort face rule heads empties tails (Derives T V S Sort face rule n) (Begins T V S Sort face rule n)
-      (starts_n T V S Sort face rule heads empties tails fine.table n) a ok d l c e u x p)
+      let (u, shape, p) = subst (Sound (Dn n a d l c) (Bn n a d l c) (Large K V S Sort rule heads empties tails a) ts) is
+      (sound_by K V S Sort rule heads empties tails rank width fine n (rn n) (sound K V S Sort rule heads empties tails rank width fine n) a ok d l c ts) in
+      passed_starts a ts rest u shape (starts_D K V S Sort rule heads empties tails (Derives K V S Sort rule n) (Begins K V S Sort rule n)
+      (starts_n K V S Sort rule heads empties tails fine.table n) a ok d l c e u x p)
 
   same_by : (n : ℕ) (R' : Reader) (most : ℕ)
-      → ((s : S) (d l c : ℕ) (ts : List T) → rank s + width * length ts < most → Same (rn n s d l c ts) (R' s d l c ts))
-      → {A : Type 0} (a : Part T V S Sort A) → Ok a → (r : ℕ) → Calls a r → (d l c : ℕ) (ts : List T) → r + width * length ts ≤ most
+      → ((s : S) (d l c : ℕ) (ts : List (Token K V)) → rank s + width * length ts < most → Same (rn n s d l c ts) (R' s d l c ts))
+      → {A : Type 0} (a : Part K V S Sort A) → Ok a → (r : ℕ) → Calls a r → (d l c : ℕ) (ts : List (Token K V)) → r + width * length ts ≤ most
       → Same (rd (rn n) a d l c ts) (rd R' a d l c ts)
   same_by n R' most h (g.mark f) ok r lead d l c [] le = same_bad stuck []
-  same_by n R' most h (g.mark f) ok r lead d l c (t ∷ ts) le = same_cond (f t) (got (face t) c ts) (got (face t) c ts) (bad stuck (t ∷ ts)) (bad stuck (t ∷ ts)) (same_got (face t) c ts) (same_bad stuck (t ∷ ts))
+  same_by n R' most h (g.mark f) ok r lead d l c (t ∷ ts) le = same_cond (f t.sight) (got t.face c ts) (got t.face c ts) (bad stuck (t ∷ ts)) (bad stuck (t ∷ ts)) (same_got t.face c ts) (same_bad stuck (t ∷ ts))
   same_by n R' most h (g.sym s) ok r lead d l c ts le = h s d l c ts (omega (arith, lead, le))
   same_by n R' most h (g.both {A} {B} a b) ok r lead d l c ts le =
-      let q : ℕ → List T → Out T B = rd (rn n) b d l in
-      let q' : ℕ → List T → Out T B = rd R' b d l in
-      let second : (x : A) (e : ℕ) (rest : List T) → Passed a ts rest → Same (q e rest) (q' e rest) = λ x e rest past. ⊎_elim
+      let q : ℕ → List (Token K V) → Out (Token K V) B = rd (rn n) b d l in
+      let q' : ℕ → List (Token K V) → Out (Token K V) B = rd R' b d l in
+      let second : (x : A) (e : ℕ) (rest : List (Token K V)) → Passed a ts rest → Same (q e rest) (q' e rest) = λ x e rest past. ⊎_elim
       (λ h'. subst (λ l. Same (q e l) (q' e l)) (sym h'.0) (same_by n R' most h b ok.1 r (lead.1 h'.1) d l e ts le))
       (λ h'. same_by n R' most h b ok.1 width (lead_width b) d l e rest (let room = less_room width (length rest) (length ts) h' in omega (arith, room, le))) past in
       same_then _ _ (λ x e rest. q e rest >>= (λ y m r'. got (x, y) m r')) (λ x e rest. q' e rest >>= (λ y m r'. got (x, y) m r')) (same_by n R' most h a ok.0 r lead.0 d l c ts le)
       (λ x e rest is. same_then (q e rest) (q' e rest) (λ y m r'. got (x, y) m r') (λ y m r'. got (x, y) m r') (second x e rest (passed n a ok.0 d l c ts x e rest is)) (λ y m r' _. same_got (x, y) m r'))
   same_by n R' most h (g.either a b) ok r lead d l c ts le = same_cond (at_first (fst a) ts) _ _ _ _ (same_by n R' most h a ok.0 r lead.0 d l c ts le) (same_by n R' most h b ok.1 r lead.1 d l c ts le)
   same_by n R' most h (g.maybe {A} a) ok r lead d l c ts le =
-      let some : A → ℕ → List T → Out T (Option A) = λ x e r. got (Some x) e r in
+      let some : A → ℕ → List (Token K V) → Out (Token K V) (Option A) = λ x e r. got (Some x) e r in
       same_cond (at_first (fst a) ts) _ _ (got None c ts) (got None c ts)
       (same_then _ _ some some (same_by n R' most h a ok.0 r lead d l c ts le) (λ x e r _. same_got (Some x) e r)) (same_got None c ts)
   same_by n R' most h (g.many a) ok r lead d l c ts le = same_turns (fst a) _ _ (length ts)
       (λ c' ts' short. same_by n R' most h a ok.0 r lead d l c' ts' (let m : width * length ts' ≤ width * length ts = mul-le-mul_left width short in omega (arith, m, le)))
       (λ c' ts' x e rest is. ⊎_elim (λ h'. absurd (clash _ h'.1 ok.1)) (λ h'. h') (passed n a ok.0 d l c' ts' x e rest is)) (length ts) c ts (omega arith)
   same_by n R' most h (g.then_if {A} {B} a goes b) ok r lead d l c ts le =
-      let q : ℕ → List T → Out T B = rd (rn n) b d l in
-      let q' : ℕ → List T → Out T B = rd R' b d l in
-      let second : (x : A) (e : ℕ) (rest : List T) → Passed a ts rest → Same (q e rest) (q' e rest) = λ x e rest past. ⊎_elim
+      let q : ℕ → List (Token K V) → Out (Token K V) B = rd (rn n) b d l in
+      let q' : ℕ → List (Token K V) → Out (Token K V) B = rd R' b d l in
+      let second : (x : A) (e : ℕ) (rest : List (Token K V)) → Passed a ts rest → Same (q e rest) (q' e rest) = λ x e rest past. ⊎_elim
       (λ h'. absurd (clash _ h'.1 ok.3))
       (λ h'. same_by n R' most h b ok.1 width (lead_width b) d l e rest (let room = less_room width (length rest) (length ts) h' in omega (arith, room, le))) past in
       same_then _ _ (λ x e rest. if_goes (goes x && at_first (fst b) rest) x e rest (q e rest)) (λ x e rest. if_goes (goes x && at_first (fst b) rest) x e rest (q' e rest)) (same_by n R' most h a ok.0 r lead d l c ts le)
@@ -156,43 +156,43 @@ module _ (T V S : Type 0) (Sort : S → Type 0) (face : T → V) (rule : (s : S)
   same_by n R' most h (g.limited a) ok r lead d l c ts le = same_then _ _ (λ x _ r. got x c r) (λ x _ r. got x c r) (same_by n R' most h a ok r lead d l l ts le) (λ x e r _. same_got x c r)
   same_by n R' most h (g.gives f a) ok r lead d l c ts le = same_then _ _ (λ x e r. got (f x) e r) (λ x e r. got (f x) e r) (same_by n R' most h a ok r lead d l c ts le) (λ x e r _. same_got (f x) e r)
 
-  same_read : (n m : ℕ) (s : S) (d l c : ℕ) (ts : List T) → rank s + width * length ts < n → rank s + width * length ts < m → Same (rn n s d l c ts) (rn m s d l c ts)
+  same_read : (n m : ℕ) (s : S) (d l c : ℕ) (ts : List (Token K V)) → rank s + width * length ts < n → rank s + width * length ts < m → Same (rn n s d l c ts) (rn m s d l c ts)
   same_read zero m s d l c ts le le' = absurd (omega (arith, le))
   same_read (suc n) zero s d l c ts le le' = absurd (omega (arith, le'))
   same_read (suc n) (suc m) s d l c ts le le' =
       same_by n (rn m) (rank s + width * length ts) (λ s' d' l' c' ts' h. same_read n m s' d' l' c' ts' (omega (arith, le, h)) (omega (arith, le', h))) (rule s) (fine.table s).decided (rank s) (fine.leads s) d l c ts (omega arith)
 
   abbrev run : Reader
-  run = reads T V S Sort face rule heads empties rank width
+  run = reads K V S Sort rule heads empties rank width
 
-  same_run : (n : ℕ) (s : S) (d l c : ℕ) (ts : List T) → rank s + width * length ts < n → Same (rn n s d l c ts) (run s d l c ts)
+  same_run : (n : ℕ) (s : S) (d l c : ℕ) (ts : List (Token K V)) → rank s + width * length ts < n → Same (rn n s d l c ts) (run s d l c ts)
   unfolding reads
   same_run n s d l c ts le = same_read n (suc (rank s + width * length ts)) s d l c ts le (omega arith)
 
   -- the reader's equation
-  pub reads_step : (s : S) (d l c : ℕ) (ts : List T) → run s d l c ts ≡ rd run (rule s) d l c ts
+  pub reads_step : (s : S) (d l c : ℕ) (ts : List (Token K V)) → run s d l c ts ≡ rd run (rule s) d l c ts
   unfolding reads
   reads_step s d l c ts = (same_by (rank s + width * length ts) run (rank s + width * length ts) (λ s' d' l' c' ts' h. same_run (rank s + width * length ts) s' d' l' c' ts' h)
       (rule s) (fine.table s).decided (rank s) (fine.leads s) d l c ts (omega arith)).0
 
   -- a value takes a token, unless the part may be empty
-  passed_run : {A : Type 0} (a : Part T V S Sort A) → Ok a → (d l c : ℕ) (ts : List T) (x : A) (e : ℕ) (rest : List T) → rd run a d l c ts ≡ got x e rest → Passed a ts rest
+  passed_run : {A : Type 0} (a : Part K V S Sort A) → Ok a → (d l c : ℕ) (ts : List (Token K V)) (x : A) (e : ℕ) (rest : List (Token K V)) → rd run a d l c ts ≡ got x e rest → Passed a ts rest
   passed_run a ok d l c ts x e rest is =
       let n : ℕ = suc (width + width * length ts) in
       passed n a ok d l c ts x e rest ((same_by n run n (λ s' d' l' c' ts' h. same_run n s' d' l' c' ts' h) a ok width (lead_width a) d l c ts (omega arith)).0 ∙ is)
 
   -- one turn of a repetition
-  pub many_step : {A : Type 0} (a : Part T V S Sort A) → Ok a → nul a ≡ false → (d l c : ℕ) (ts : List T)
+  pub many_step : {A : Type 0} (a : Part K V S Sort A) → Ok a → nul a ≡ false → (d l c : ℕ) (ts : List (Token K V))
       → rd run (g.many a) d l c ts ≡ cond (at_first (fst a) ts) (rd run a d l c ts >>= (λ x e rest. rd run (g.many a) d l e rest >>= (λ xs m r. got (x ∷ xs) m r))) (got [] c ts)
   many_step a ok hn d l c ts = turns_again (fst a) (rd run a d l)
       (λ c ts x e rest is. ⊎_elim (λ h. absurd (clash _ h.1 hn)) (λ h. h) (passed_run a ok d l c ts x e rest is)) c ts
 
-  pub reads_answers : (s : S) (d l c : ℕ) (ts : List T) → run s d l c ts ≡ spent → ⊥
+  pub reads_answers : (s : S) (d l c : ℕ) (ts : List (Token K V)) → run s d l c ts ≡ spent → ⊥
   unfolding reads
   reads_answers s d l c ts = (same_run (suc (rank s + width * length ts)) s d l c ts (omega arith)).1
 
   -- its answer is so
-  pub reads_sound : (s : S) (d l c : ℕ) (ts : List T) →
-      Sound (Dn (suc (rank s + width * length ts)) (g.sym s) d l c) (Bn (suc (rank s + width * length ts)) (g.sym s) d l c) (Large T V S Sort face rule heads empties tails (g.sym s)) ts (run s d l c ts)
+  pub reads_sound : (s : S) (d l c : ℕ) (ts : List (Token K V)) →
+      Sound (Dn (suc (rank s + width * length ts)) (g.sym s) d l c) (Bn (suc (rank s + width * length ts)) (g.sym s) d l c) (Large K V S Sort rule heads empties tails (g.sym s)) ts (run s d l c ts)
   unfolding reads
-  reads_sound s d l c ts = sound T V S Sort face rule heads empties tails rank width fine (suc (rank s + width * length ts)) s d l c ts
+  reads_sound s d l c ts = sound K V S Sort rule heads empties tails rank width fine (suc (rank s + width * length ts)) s d l c ts

@@ -1,10 +1,11 @@
 -- The one law: the reader's answer says what it should of the tokens, in each grammar that one token ahead decides.
 use Rattle.std.proofs.Common.{◌≡◌, ◌+◌, ◌*◌, ◌⊎◌, inl, inr, ℕ, zero, suc, Bool, true, false, List, [], ◌∷◌, ◌++◌, length, refl, sym, ap, ◌∙◌, subst, append_assoc, arith, length-append}
 use Rattle.sw_grammar.specs.Grammar as g
-use Rattle.sw_grammar.specs.Grammar.{Part, Room, IsWithin, Derives_by, Derives, Begins_by, Begins, Spells, Begun}
+use Rattle.sw_grammar.specs.Grammar.{Token, Part, Room, IsWithin, Derives_by, Derives, Begins_by, Begins, Spells, Begun}
 use Rattle.sw_grammar.specs.Reading.{full, stuck, Out, got, bad, spent, at_first, first, read_by, reads}
 use Rattle.sw_grammar.specs.Deciding.{cont, Decided, IsDecided}
-use Rattle.sw_grammar.specs.Answers.{EndsAt, LacksRoom, IsNoText, Answers}
+use Rattle.sw_grammar.specs.Ends.{EndsAt, LacksRoom, IsNoText}
+use Rattle.sw_grammar.specs.Answers.{Answers}
 use Rattle.sw_grammar.proofs.Grow.{begins_nil}
 use Rattle.sw_grammar.proofs.Starts.{Starts, not_true, clash, starts_n, starts_b, text_n}
 use Rattle.sw_grammar.proofs.Leading.{Large, lead_part}
@@ -19,9 +20,9 @@ sound_lies D B F ts (bad full r) (u, t, q, er, e, h, l) = (u, e)
 sound_lies D B F ts (bad stuck r) (u, e, h) = (u, e)
 sound_lies D B F ts spent h = tt
 
-at_first_weak : {T : Type 0} (f h : T → Bool) (rest : List T) → ((t : T) → h t ≡ true → f t ≡ true) → at_first f rest ≡ false → at_first h rest ≡ false
+at_first_weak : {K V : Type 0} (f h : K → Bool) (rest : List (Token K V)) → ((t : K) → h t ≡ true → f t ≡ true) → at_first f rest ≡ false → at_first h rest ≡ false
 at_first_weak f h [] k e = refl
-at_first_weak f h (t ∷ rest) k e = not_true (h t) (λ p. clash (f t) (k t p) e)
+at_first_weak f h (t ∷ rest) k e = not_true (h t.sight) (λ p. clash (f t.sight) (k t.sight p) e)
 
 not_within : {T : Type 0} (t : T) (v rest : List T) → rest ≡ v ++ t ∷ rest → ⊥
 not_within t v rest e = let l = ap length e in omega (arith, l, length-append v (t ∷ rest))
@@ -39,115 +40,115 @@ got_read x e0 rest spent p = elim p [ ]
 value_same : {T A : Type 0} (x y : A) (c e : ℕ) (r q : List T) → got x c r ≡ got y e q → x ≡ y
 value_same x y c e r q h = cc
 
-module _ (T V S : Type 0) (Sort : S → Type 0) (face : T → V) (rule : (s : S) → Part T V S Sort (Sort s)) (heads : S → T → Bool) (empties : S → Bool) (tails : S → T → Bool)
-    (rank : S → ℕ) (width : ℕ) (fine : IsDecided T V S Sort face rule heads empties tails rank width) where
-  abbrev fst : {A : Type 0} → Part T V S Sort A → T → Bool
-  fst a = first T V S Sort face rule heads empties a
+module _ (K V S : Type 0) (Sort : S → Type 0) (rule : (s : S) → Part K V S Sort (Sort s)) (heads : S → K → Bool) (empties : S → Bool) (tails : S → K → Bool)
+    (rank : S → ℕ) (width : ℕ) (fine : IsDecided K V S Sort rule heads empties tails rank width) where
+  abbrev fst : {A : Type 0} → Part K V S Sort A → K → Bool
+  fst a = first K V S Sort rule heads empties a
 
-  abbrev cnt : {A : Type 0} → Part T V S Sort A → T → Bool
-  cnt a = cont T V S Sort face rule heads empties tails a
+  abbrev cnt : {A : Type 0} → Part K V S Sort A → K → Bool
+  cnt a = cont K V S Sort rule heads empties tails a
 
-  abbrev Ok : {A : Type 0} → Part T V S Sort A → Type 0
-  Ok a = Decided T V S Sort face rule heads empties tails a
+  abbrev Ok : {A : Type 0} → Part K V S Sort A → Type 0
+  Ok a = Decided K V S Sort rule heads empties tails a
 
-  abbrev Dn : ℕ → (s : S) → ℕ → ℕ → ℕ → ℕ → List T → Sort s → Type 0
-  Dn n = Derives T V S Sort face rule n
+  abbrev Dn : ℕ → (s : S) → ℕ → ℕ → ℕ → ℕ → List (Token K V) → Sort s → Type 0
+  Dn n = Derives K V S Sort rule n
 
-  abbrev Bn : ℕ → (s : S) → ℕ → ℕ → ℕ → List T → Type 0
-  Bn n = Begins T V S Sort face rule n
+  abbrev Bn : ℕ → (s : S) → ℕ → ℕ → ℕ → List (Token K V) → Type 0
+  Bn n = Begins K V S Sort rule n
 
-  abbrev run : (s : S) → ℕ → ℕ → ℕ → List T → Out T (Sort s)
-  run = reads T V S Sort face rule heads empties rank width
+  abbrev run : (s : S) → ℕ → ℕ → ℕ → List (Token K V) → Out (Token K V) (Sort s)
+  run = reads K V S Sort rule heads empties rank width
 
-  abbrev Rd : {A : Type 0} → Part T V S Sort A → ℕ → ℕ → ℕ → List T → Out T A
-  Rd a d l c ts = read_by T V S Sort face rule heads empties run a d l c ts
+  abbrev Rd : {A : Type 0} → Part K V S Sort A → ℕ → ℕ → ℕ → List (Token K V) → Out (Token K V) A
+  Rd a d l c ts = read_by K V S Sort rule heads empties run a d l c ts
 
-  step : (s : S) (d l c : ℕ) (ts : List T) → run s d l c ts ≡ Rd (rule s) d l c ts
-  step = reads_step T V S Sort face rule heads empties tails rank width fine
+  step : (s : S) (d l c : ℕ) (ts : List (Token K V)) → run s d l c ts ≡ Rd (rule s) d l c ts
+  step = reads_step K V S Sort rule heads empties tails rank width fine
 
-  lies_run : (s : S) (d l c : ℕ) (ts : List T) → Lies ts (run s d l c ts)
-  lies_run s d l c ts = sound_lies _ _ (Large T V S Sort face rule heads empties tails (g.sym s)) ts (run s d l c ts) (reads_sound T V S Sort face rule heads empties tails rank width fine s d l c ts)
+  lies_run : (s : S) (d l c : ℕ) (ts : List (Token K V)) → Lies ts (run s d l c ts)
+  lies_run s d l c ts = sound_lies _ _ (Large K V S Sort rule heads empties tails (g.sym s)) ts (run s d l c ts) (reads_sound K V S Sort rule heads empties tails rank width fine s d l c ts)
 
-  starts : (n : ℕ) (s : S) (d l c e : ℕ) (u : List T) (x : Sort s) → Dn n s d l c e u x → Starts (empties s) (heads s) u
-  starts = starts_n T V S Sort face rule heads empties tails fine.table
+  starts : (n : ℕ) (s : S) (d l c e : ℕ) (u : List (Token K V)) (x : Sort s) → Dn n s d l c e u x → Starts (empties s) (heads s) u
+  starts = starts_n K V S Sort rule heads empties tails fine.table
 
-  starts_begun : (n : ℕ) (s : S) (d l c : ℕ) (u : List T) → Bn n s d l c u → Starts true (heads s) u
-  starts_begun = starts_b T V S Sort face rule heads empties tails fine.table
+  starts_begun : (n : ℕ) (s : S) (d l c : ℕ) (u : List (Token K V)) → Bn n s d l c u → Starts true (heads s) u
+  starts_begun = starts_b K V S Sort rule heads empties tails fine.table
 
   -- ---- texts are read, and beginnings are not refused
 
   abbrev Completes : Bool → ℕ → Type 0
-  Completes b n = (s : S) (d0 l0 c0 e0 : ℕ) (u : List T) (x : Sort s) (d l c : ℕ) (rest : List T) → Dn n s d0 l0 c0 e0 u x → Fits b d0 d → Fits b l0 l → Fits b c0 c → at_first (tails s) rest ≡ false
+  Completes b n = (s : S) (d0 l0 c0 e0 : ℕ) (u : List (Token K V)) (x : Sort s) (d l c : ℕ) (rest : List (Token K V)) → Dn n s d0 l0 c0 e0 u x → Fits b d0 d → Fits b l0 l → Fits b c0 c → at_first (tails s) rest ≡ false
       → Reads b x e0 rest (run s d l c (u ++ rest))
 
   complete_n : (b : Bool) (n : ℕ) → Completes b n
   complete_n b zero s d0 l0 c0 e0 u x d l c rest p fd fl fc st = elim p [ ]
   complete_n b (suc n) s d0 l0 c0 e0 u x d l c rest p fd fl fc st = subst (Reads b x e0 rest) (sym (step s d l c (u ++ rest)))
-      (complete_by T V S Sort face rule heads empties tails run lies_run b (Dn n) (Bn n) (starts n) (complete_n b n) (rule s) (fine.table s).decided d0 l0 c0 e0 u x d l c rest p fd fl fc
+      (complete_by K V S Sort rule heads empties tails run lies_run b (Dn n) (Bn n) (starts n) (complete_n b n) (rule s) (fine.table s).decided d0 l0 c0 e0 u x d l c rest p fd fl fc
       (at_first_weak (tails s) (cnt (rule s)) rest (fine.table s).tail st))
 
   abbrev Keeps : Bool → ℕ → Type 0
-  Keeps b n = (s : S) (d0 l0 c0 : ℕ) (u : List T) (d l c : ℕ) (rest : List T) → Bn n s d0 l0 c0 u → Fits b d0 d → Fits b l0 l → Fits b c0 c → Within b rest (run s d l c (u ++ rest))
+  Keeps b n = (s : S) (d0 l0 c0 : ℕ) (u : List (Token K V)) (d l c : ℕ) (rest : List (Token K V)) → Bn n s d0 l0 c0 u → Fits b d0 d → Fits b l0 l → Fits b c0 c → Within b rest (run s d l c (u ++ rest))
 
-  within_part : (b : Bool) (n : ℕ) → Keeps b n → {A : Type 0} (a : Part T V S Sort A) → Ok a → (d0 l0 c0 : ℕ) (u : List T) (d l c : ℕ) (rest : List T)
-      → Begins_by T V S Sort face rule (Dn n) (Bn n) a d0 l0 c0 u → Fits b d0 d → Fits b l0 l → Fits b c0 c → Within b rest (Rd a d l c (u ++ rest))
-  within_part b n k a ok = within_by T V S Sort face rule heads empties tails run lies_run b (Dn n) (Bn n) (starts n) (complete_n b n)
-      (begins_nil T V S Sort face rule n) (text_n T V S Sort face rule heads empties tails n) (starts_begun n) k a ok
+  within_part : (b : Bool) (n : ℕ) → Keeps b n → {A : Type 0} (a : Part K V S Sort A) → Ok a → (d0 l0 c0 : ℕ) (u : List (Token K V)) (d l c : ℕ) (rest : List (Token K V))
+      → Begins_by K V S Sort rule (Dn n) (Bn n) a d0 l0 c0 u → Fits b d0 d → Fits b l0 l → Fits b c0 c → Within b rest (Rd a d l c (u ++ rest))
+  within_part b n k a ok = within_by K V S Sort rule heads empties tails run lies_run b (Dn n) (Bn n) (starts n) (complete_n b n)
+      (begins_nil K V S Sort rule n) (text_n K V S Sort rule heads empties tails n) (starts_begun n) k a ok
 
   within_n : (b : Bool) (n : ℕ) → Keeps b n
   within_n b zero s d0 l0 c0 u d l c rest eu fd fl fc = subst (λ u. Within b rest (run s d l c (u ++ rest))) (sym eu) (within_lies b rest (run s d l c rest) (lies_run s d l c rest))
   within_n b (suc n) s d0 l0 c0 u d l c rest p fd fl fc = subst (Within b rest) (sym (step s d l c (u ++ rest)))
       (within_part b n (within_n b n) (rule s) (fine.table s).decided d0 l0 c0 u d l c rest p fd fl fc)
 
-  next : (A : Type 0) (a : Part T V S Sort A) → Ok a → (d l c : ℕ) (t : T) (rest : List T) → fst a t ≡ true → Within false rest (Rd a d l c (t ∷ rest))
+  next : (A : Type 0) (a : Part K V S Sort A) → Ok a → (d l c : ℕ) (t : (Token K V)) (rest : List (Token K V)) → fst a t.sight ≡ true → Within false rest (Rd a d l c (t ∷ rest))
   next A a ok d l c t rest is =
-      let (n, large) = lead_part T V S Sort face rule heads empties tails rank width fine a ok t is in
+      let (n, large) = lead_part K V S Sort rule heads empties tails rank width fine a ok t is in
       let m : ℕ = large.0 in
       within_part false n (within_n false n) a ok m m m (t ∷ []) d l c rest (large.1 m m m (omega arith) (omega arith) (omega arith)) tt tt tt
 
-  past_n : (n : ℕ) (s : S) (d0 l0 c0 e0 : ℕ) (u : List T) (x : Sort s) (d l c : ℕ) (rest : List T) → Dn n s d0 l0 c0 e0 u x → Past rest (run s d l c (u ++ rest))
+  past_n : (n : ℕ) (s : S) (d0 l0 c0 e0 : ℕ) (u : List (Token K V)) (x : Sort s) (d l c : ℕ) (rest : List (Token K V)) → Dn n s d0 l0 c0 e0 u x → Past rest (run s d l c (u ++ rest))
   past_n zero s d0 l0 c0 e0 u x d l c rest p = elim p [ ]
   past_n (suc n) s d0 l0 c0 e0 u x d l c rest p = subst (Past rest) (sym (step s d l c (u ++ rest)))
-      (past_by T V S Sort face rule heads empties tails run lies_run next (Dn n) (Bn n) (starts n)
-      (λ A a ok d0 l0 c0 e0 u x d l c rest p st. complete_by T V S Sort face rule heads empties tails run lies_run false (Dn n) (Bn n) (starts n) (complete_n false n) a ok d0 l0 c0 e0 u x d l c rest p tt tt tt st)
+      (past_by K V S Sort rule heads empties tails run lies_run next (Dn n) (Bn n) (starts n)
+      (λ A a ok d0 l0 c0 e0 u x d l c rest p st. complete_by K V S Sort rule heads empties tails run lies_run false (Dn n) (Bn n) (starts n) (complete_n false n) a ok d0 l0 c0 e0 u x d l c rest p tt tt tt st)
       (past_n n) (rule s) (fine.table s).decided d0 l0 c0 e0 u x d l c rest p)
 
   -- ---- the law
 
-  abbrev Spelt : (s : S) → Room → List T → Sort s → Type 0
-  Spelt = Spells T V S Sort face rule
+  abbrev Spelt : (s : S) → Room → List (Token K V) → Sort s → Type 0
+  Spelt = Spells K V S Sort rule
 
-  abbrev Started : S → Room → List T → Type 0
-  Started = Begun T V S Sort face rule
+  abbrev Started : S → Room → List (Token K V) → Type 0
+  Started = Begun K V S Sort rule
 
-  abbrev pub reads_in : (s : S) → Room → List T → Out T (Sort s)
+  abbrev pub reads_in : (s : S) → Room → List (Token K V) → Out (Token K V) (Sort s)
   reads_in s room ts = run s room.brackets room.limit room.left ts
 
   -- where the tokens up to the next begin a text in some room
-  begun_on : (s : S) (d l c : ℕ) (u : List T) (t : T) (rest : List T) (room : Room) → Started s room (u ++ t ∷ []) → Within false rest (run s d l c (u ++ t ∷ rest))
+  begun_on : (s : S) (d l c : ℕ) (u : List (Token K V)) (t : (Token K V)) (rest : List (Token K V)) (room : Room) → Started s room (u ++ t ∷ []) → Within false rest (run s d l c (u ++ t ∷ rest))
   begun_on s d l c u t rest room (n, p) =
       subst (λ ts. Within false rest (run s d l c ts)) (append_assoc u (t ∷ []) rest) (within_n false n s room.brackets room.limit room.left (u ++ t ∷ []) d l c rest p tt tt tt)
 
-  ends_got : (s : S) (d l c : ℕ) (u rest : List T) (x : Sort s) (e : ℕ) → run s d l c (u ++ rest) ≡ got x e rest → EndsAt T V S Sort face rule s u rest
+  ends_got : (s : S) (d l c : ℕ) (u rest : List (Token K V)) (x : Sort s) (e : ℕ) → run s d l c (u ++ rest) ≡ got x e rest → EndsAt K V S Sort rule s u rest
   ends_got s d l c u [] x e is = tt
   ends_got s d l c u (t ∷ rest) x e is = λ room b. let (v, w) = subst (Within false rest) is (begun_on s d l c u t rest room b) in not_within t v rest w
 
-  ends_stuck : (s : S) (d l c : ℕ) (u rest : List T) → run s d l c (u ++ rest) ≡ bad stuck rest → EndsAt T V S Sort face rule s u rest
+  ends_stuck : (s : S) (d l c : ℕ) (u rest : List (Token K V)) → run s d l c (u ++ rest) ≡ bad stuck rest → EndsAt K V S Sort rule s u rest
   ends_stuck s d l c u [] is = tt
   ends_stuck s d l c u (t ∷ rest) is = λ room b. let (v, w) = subst (Within false rest) is (begun_on s d l c u t rest room b) in not_within t v rest w
 
-  no_text : (s : S) (d l c : ℕ) (u rest : List T) → run s d l c (u ++ rest) ≡ bad stuck rest → IsNoText T V S Sort face rule s u
+  no_text : (s : S) (d l c : ℕ) (u rest : List (Token K V)) → run s d l c (u ++ rest) ≡ bad stuck rest → IsNoText K V S Sort rule s u
   no_text s d l c u rest is room x (n, e, p) =
       let (t, v, w) = subst (Past rest) is (past_n n s room.brackets room.limit room.left e u x d l c rest p) in not_past t v rest w
 
-  lacks : (s : S) (room : Room) (u : List T) (t : T) (rest : List T) → reads_in s room (u ++ t ∷ rest) ≡ bad full (t ∷ rest) → Large T V S Sort face rule heads empties tails (g.sym s) (u ++ t ∷ [])
-      → LacksRoom T V S Sort face rule s room u (t ∷ rest)
+  lacks : (s : S) (room : Room) (u : List (Token K V)) (t : (Token K V)) (rest : List (Token K V)) → reads_in s room (u ++ t ∷ rest) ≡ bad full (t ∷ rest) → Large K V S Sort rule heads empties tails (g.sym s) (u ++ t ∷ [])
+      → LacksRoom K V S Sort rule s room u (t ∷ rest)
   lacks s room u t rest is (n, large) = (refused, larger, (omega arith, omega arith, omega arith), (n, large.1 (large.0 + room.brackets) (large.0 + room.limit) (large.0 + room.left) (omega arith) (omega arith) (omega arith)))
     where
       larger : Room
       larger = record { brackets = large.0 + room.brackets; left = large.0 + room.left; limit = large.0 + room.limit }
 
-      inside : ⊥ ⊎ ((v : List T) × (rest ≡ v ++ t ∷ rest)) → ⊥
+      inside : ⊥ ⊎ ((v : List (Token K V)) × (rest ≡ v ++ t ∷ rest)) → ⊥
       inside (inl h) = h
       inside (inr (v, w)) = not_within t v rest w
 
@@ -155,8 +156,8 @@ module _ (T V S : Type 0) (Sort : S → Type 0) (face : T → V) (rule : (s : S)
       refused (m, p) = inside (subst (Within true rest) is (subst (λ ts. Within true rest (reads_in s room ts)) (append_assoc u (t ∷ []) rest)
           (within_n true m s room.brackets room.limit room.left (u ++ t ∷ []) room.brackets room.limit room.left rest p (omega arith) (omega arith) (omega arith))))
 
-  pub reads_exact : (s : S) (room : Room) (ts : List T) → Answers T V S Sort face rule s room ts (reads_in s room ts)
-  reads_exact s room ts = go (reads_in s room ts) refl (reads_sound T V S Sort face rule heads empties tails rank width fine s d l c ts) (reads_answers T V S Sort face rule heads empties tails rank width fine s d l c ts)
+  pub reads_exact : (s : S) (room : Room) (ts : List (Token K V)) → Answers K V S Sort rule s room ts (reads_in s room ts)
+  reads_exact s room ts = go (reads_in s room ts) refl (reads_sound K V S Sort rule heads empties tails rank width fine s d l c ts) (reads_answers K V S Sort rule heads empties tails rank width fine s d l c ts)
     where
       d : ℕ
       d = room.brackets
@@ -170,24 +171,24 @@ module _ (T V S : Type 0) (Sort : S → Type 0) (face : T → V) (rule : (s : S)
       n : ℕ
       n = suc (rank s + width * length ts)
 
-      go : (o : Out T (Sort s)) → reads_in s room ts ≡ o
-          → Sound (λ e u x. Derives T V S Sort face rule n s room.brackets room.limit room.left e u x) (λ u. Begins T V S Sort face rule n s room.brackets room.limit room.left u) (Large T V S Sort face rule heads empties tails (g.sym s)) ts o
-          → (reads_in s room ts ≡ spent → ⊥) → Answers T V S Sort face rule s room ts o
+      go : (o : Out (Token K V) (Sort s)) → reads_in s room ts ≡ o
+          → Sound (λ e u x. Derives K V S Sort rule n s room.brackets room.limit room.left e u x) (λ u. Begins K V S Sort rule n s room.brackets room.limit room.left u) (Large K V S Sort rule heads empties tails (g.sym s)) ts o
+          → (reads_in s room ts ≡ spent → ⊥) → Answers K V S Sort rule s room ts o
       go (got x e rest) is (u, shape, p) ns = (u, shape, (n, e, p), ends_got s room.brackets room.limit room.left u rest x e (ap (reads_in s room) (sym shape) ∙ is))
       go (bad full rest) is (u, t, r, er, shape, p, large) ns =
-          (u, shape, (n, p), subst (LacksRoom T V S Sort face rule s room u) (sym er) (lacks s room u t r (ap (λ i. reads_in s room (u ++ i)) (sym er) ∙ ap (reads_in s room) (sym shape) ∙ is ∙ ap (λ i. bad full i) er) large))
+          (u, shape, (n, p), subst (LacksRoom K V S Sort rule s room u) (sym er) (lacks s room u t r (ap (λ i. reads_in s room (u ++ i)) (sym er) ∙ ap (reads_in s room) (sym shape) ∙ is ∙ ap (λ i. bad full i) er) large))
       go (bad stuck rest) is (u, shape, p) ns =
           let at = ap (reads_in s room) (sym shape) ∙ is in
           (u, shape, (n, p), ends_stuck s room.brackets room.limit room.left u rest at, no_text s room.brackets room.limit room.left u rest at)
       go spent is h ns = ns is
 
   -- each text is read, with its value, in each room that holds it, where what follows does not go on with it
-  pub reads_text : (s : S) (room larger : Room) (u : List T) (x : Sort s) (rest : List T) → Spelt s room u x → IsWithin room larger → at_first (tails s) rest ≡ false → (c : ℕ) × (reads_in s larger (u ++ rest) ≡ got x c rest)
+  pub reads_text : (s : S) (room larger : Room) (u : List (Token K V)) (x : Sort s) (rest : List (Token K V)) → Spelt s room u x → IsWithin room larger → at_first (tails s) rest ≡ false → (c : ℕ) × (reads_in s larger (u ++ rest) ≡ got x c rest)
   reads_text s room larger u x rest (n, e, p) within st =
       got_read x e rest (reads_in s larger (u ++ rest)) (complete_n true n s room.brackets room.limit room.left e u x larger.brackets larger.limit larger.left rest p within.0 within.2 within.1 st)
 
   -- each text has one value, whatever the rooms
-  pub one_tree : (s : S) (room room' : Room) (u : List T) (x y : Sort s) → Spelt s room u x → Spelt s room' u y → x ≡ y
+  pub one_tree : (s : S) (room room' : Room) (u : List (Token K V)) (x y : Sort s) → Spelt s room u x → Spelt s room' u y → x ≡ y
   one_tree s room room' u x y p q =
       let (c, ex) = reads_text s room larger u x [] p (omega arith, omega arith, omega arith) refl in
       let (e, ey) = reads_text s room' larger u y [] q (omega arith, omega arith, omega arith) refl in

@@ -3,19 +3,19 @@ use Rattle.std.specs.Prelude.{◌≡◌, ◌<◌, ℕ, Bool, true, false, ◌||�
 use Rattle.sw_grammar.specs.Grammar.{Part, mark, sym, both, either, maybe, many, then_if, when, nest, counts, limited, gives}
 use Rattle.sw_grammar.specs.Reading.{or_if, null, first}
 
--- no token passes both tests
-abbrev pub Apart : {T : Type 0} → (T → Bool) → (T → Bool) → Type 0
-Apart {T} f h = (t : T) → f t ≡ true → h t ≡ true → ⊥
+-- no sight passes both tests
+abbrev pub Apart : {K : Type 0} → (K → Bool) → (K → Bool) → Type 0
+Apart {K} f h = (t : K) → f t ≡ true → h t ≡ true → ⊥
 
-module _ (T V S : Type 0) (Sort : S → Type 0) (face : T → V) (rule : (s : S) → Part T V S Sort (Sort s)) (heads : S → T → Bool) (empties : S → Bool) (tails : S → T → Bool) where
-  abbrev nullable : {A : Type 0} → Part T V S Sort A → Bool
-  nullable a = null T V S Sort face rule heads empties a
+module _ (K V S : Type 0) (Sort : S → Type 0) (rule : (s : S) → Part K V S Sort (Sort s)) (heads : S → K → Bool) (empties : S → Bool) (tails : S → K → Bool) where
+  abbrev nullable : {A : Type 0} → Part K V S Sort A → Bool
+  nullable a = null K V S Sort rule heads empties a
 
-  abbrev begins_with : {A : Type 0} → Part T V S Sort A → T → Bool
-  begins_with a = first T V S Sort face rule heads empties a
+  abbrev begins_with : {A : Type 0} → Part K V S Sort A → K → Bool
+  begins_with a = first K V S Sort rule heads empties a
 
   -- the tokens with which a text of it may go on
-  abbrev pub cont : {A : Type 0} → Part T V S Sort A → T → Bool
+  abbrev pub cont : {A : Type 0} → Part K V S Sort A → K → Bool
   cont (mark f) t = false
   cont (sym s) t = tails s t
   cont (both a b) t = or_if (nullable b) (cont b t) (begins_with b t || cont a t)
@@ -29,7 +29,7 @@ module _ (T V S : Type 0) (Sort : S → Type 0) (face : T → V) (rule : (s : S)
   cont (limited a) t = cont a t
   cont (gives f a) t = cont a t
 
-  abbrev pub Decided : {A : Type 0} → Part T V S Sort A → Type 0
+  abbrev pub Decided : {A : Type 0} → Part K V S Sort A → Type 0
   Decided (mark f) = Unit {0}
   Decided (sym s) = Unit {0}
   Decided (both a b) = Decided a × Decided b × Apart (cont a) (begins_with b)
@@ -48,12 +48,12 @@ module _ (T V S : Type 0) (Sort : S → Type 0) (face : T → V) (rule : (s : S)
     pub decided : Decided (rule s)
     pub empty : nullable (rule s) ≡ empties s
     -- the tokens that its rule begins with are in the table, and no others
-    pub head : (t : T) → begins_with (rule s) t ≡ true → heads s t ≡ true
-    pub only : (t : T) → heads s t ≡ true → begins_with (rule s) t ≡ true
-    pub tail : (t : T) → cont (rule s) t ≡ true → tails s t ≡ true
+    pub head : (t : K) → begins_with (rule s) t ≡ true → heads s t ≡ true
+    pub only : (t : K) → heads s t ≡ true → begins_with (rule s) t ≡ true
+    pub tail : (t : K) → cont (rule s) t ≡ true → tails s t ≡ true
 
   -- before it takes a token, the part calls only symbols of lower rank
-  abbrev pub Leads : (S → ℕ) → {A : Type 0} → Part T V S Sort A → ℕ → Type 0
+  abbrev pub Leads : (S → ℕ) → {A : Type 0} → Part K V S Sort A → ℕ → Type 0
   Leads rank (mark f) r = Unit {0}
   Leads rank (sym s) r = rank s < r
   Leads rank (both a b) r = Leads rank a r × (nullable a ≡ true → Leads rank b r)

@@ -1,8 +1,8 @@
 -- The words of the theory: grammars, the reader, when one token ahead decides, and what the answers say.
 pub mod Answers
 pub mod Avoiding
-pub mod Brackets
+pub mod Checking
 pub mod Deciding
+pub mod Ends
 pub mod Grammar
 pub mod Reading
-pub mod Stripping

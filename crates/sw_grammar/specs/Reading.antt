@@ -1,6 +1,6 @@
 -- The reading of a grammar from the left, by the next token.
 use Rattle.std.specs.Prelude.{ℕ, zero, suc, ◌+◌, ◌*◌, Bool, true, false, ◌||◌, ◌&&◌, cond, List, [], ◌∷◌, length, Option, Some, None}
-use Rattle.sw_grammar.specs.Grammar.{Part, mark, sym, both, either, maybe, many, then_if, when, nest, counts, limited, gives}
+use Rattle.sw_grammar.specs.Grammar.{Token, Part, mark, sym, both, either, maybe, many, then_if, when, nest, counts, limited, gives}
 
 -- why a token is refused
 pub data Why : Type 0 where
@@ -22,21 +22,21 @@ abbrev pub ◌>>=◌ : {T A B : Type 0} → Out T A → (A → ℕ → List T �
 spent >>= f = spent
 
 -- the first token passes the test
-abbrev pub at_first : {T : Type 0} → (T → Bool) → List T → Bool
+abbrev pub at_first : {K V : Type 0} → (K → Bool) → List (Token K V) → Bool
 at_first f [] = false
-at_first f (t ∷ ts) = f t
+at_first f (t ∷ ts) = f t.sight
 
 -- the second too, where the first part may be empty
 abbrev pub or_if : Bool → Bool → Bool → Bool
 or_if true x y = x || y
 or_if false x y = x
 
-abbrev pub one : {T V : Type 0} → (T → V) → (T → Bool) → ℕ → List T → Out T V
-one face f c [] = bad stuck []
-one face f c (t ∷ ts) = cond (f t) (got (face t) c ts) (bad stuck (t ∷ ts))
+abbrev pub one : {K V : Type 0} → (K → Bool) → ℕ → List (Token K V) → Out (Token K V) V
+one f c [] = bad stuck []
+one f c (t ∷ ts) = cond (f t.sight) (got t.face c ts) (bad stuck (t ∷ ts))
 
 -- a part for which there is no room
-abbrev pub no_room : {T A : Type 0} → (T → Bool) → List T → Out T A
+abbrev pub no_room : {K V A : Type 0} → (K → Bool) → List (Token K V) → Out (Token K V) A
 no_room f ts = cond (at_first f ts) (bad full ts) (bad stuck ts)
 
 -- a second part, where it comes
@@ -45,13 +45,13 @@ if_goes true x c rest o = o >>= (λ y c' r. got (x, Some y) c' r)
 if_goes false x c rest o = got (x, None) c rest
 
 -- as many as there are, and the number bounds them
-abbrev pub turns : {T A : Type 0} → (T → Bool) → (ℕ → List T → Out T A) → ℕ → ℕ → List T → Out T (List A)
+abbrev pub turns : {K V A : Type 0} → (K → Bool) → (ℕ → List (Token K V) → Out (Token K V) A) → ℕ → ℕ → List (Token K V) → Out (Token K V) (List A)
 turns f p zero c ts = got [] c ts
 turns f p (suc k) c ts = cond (at_first f ts) (p c ts >>= (λ x c' rest. turns f p k c' rest >>= (λ xs c'' r. got (x ∷ xs) c'' r))) (got [] c ts)
 
-module _ (T V S : Type 0) (Sort : S → Type 0) (face : T → V) (rule : (s : S) → Part T V S Sort (Sort s)) (heads : S → T → Bool) (empties : S → Bool) where
+module _ (K V S : Type 0) (Sort : S → Type 0) (rule : (s : S) → Part K V S Sort (Sort s)) (heads : S → K → Bool) (empties : S → Bool) where
   -- whether the empty run is a text of it
-  abbrev pub null : {A : Type 0} → Part T V S Sort A → Bool
+  abbrev pub null : {A : Type 0} → Part K V S Sort A → Bool
   null (mark f) = false
   null (sym s) = empties s
   null (both a b) = null a && null b
@@ -66,7 +66,7 @@ module _ (T V S : Type 0) (Sort : S → Type 0) (face : T → V) (rule : (s : S)
   null (gives f a) = null a
 
   -- the tokens that a text of it begins with
-  abbrev pub first : {A : Type 0} → Part T V S Sort A → T → Bool
+  abbrev pub first : {A : Type 0} → Part K V S Sort A → K → Bool
   first (mark f) t = f t
   first (sym s) t = heads s t
   first (both a b) t = or_if (null a) (first a t) (first b t)
@@ -81,8 +81,8 @@ module _ (T V S : Type 0) (Sort : S → Type 0) (face : T → V) (rule : (s : S)
   first (gives f a) t = first a t
 
   -- d brackets may be opened, a count of its own may hold l, and c more may be counted
-  abbrev pub read_by : ((s : S) → ℕ → ℕ → ℕ → List T → Out T (Sort s)) → {A : Type 0} → Part T V S Sort A → ℕ → ℕ → ℕ → List T → Out T A
-  read_by R (mark f) d l c ts = one face f c ts
+  abbrev pub read_by : ((s : S) → ℕ → ℕ → ℕ → List (Token K V) → Out (Token K V) (Sort s)) → {A : Type 0} → Part K V S Sort A → ℕ → ℕ → ℕ → List (Token K V) → Out (Token K V) A
+  read_by R (mark f) d l c ts = one f c ts
   read_by R (sym s) d l c ts = R s d l c ts
   read_by R (both a b) d l c ts = read_by R a d l c ts >>= (λ x c' rest. read_by R b d l c' rest >>= (λ y c'' r. got (x, y) c'' r))
   read_by R (either a b) d l c ts = cond (at_first (first a) ts) (read_by R a d l c ts) (read_by R b d l c ts)
@@ -97,11 +97,11 @@ module _ (T V S : Type 0) (Sort : S → Type 0) (face : T → V) (rule : (s : S)
   read_by R (limited a) d l c ts = read_by R a d l l ts >>= (λ x _ rest. got x c rest)
   read_by R (gives f a) d l c ts = read_by R a d l c ts >>= (λ x c' rest. got (f x) c' rest)
 
-  abbrev pub read : ℕ → (s : S) → ℕ → ℕ → ℕ → List T → Out T (Sort s)
+  abbrev pub read : ℕ → (s : S) → ℕ → ℕ → ℕ → List (Token K V) → Out (Token K V) (Sort s)
   read zero s d l c ts = spent
   read (suc n) s d l c ts = read_by (read n) (rule s) d l c ts
 
   -- read to its end: a symbol calls only symbols of lower rank before it takes a token
   module _ (rank : S → ℕ) (width : ℕ) where
-    unfoldable pub reads : (s : S) → ℕ → ℕ → ℕ → List T → Out T (Sort s)
+    unfoldable pub reads : (s : S) → ℕ → ℕ → ℕ → List (Token K V) → Out (Token K V) (Sort s)
     reads s d l c ts = read (suc (rank s + width * length ts)) s d l c ts

@@ -18,7 +18,8 @@ use Rattle.sw_job.specs.declared.turn.Ask.TheVariants.{Print as AskPrint}
 use Rattle.sw_job.specs.declared.turn.Exit.TheVariants.{Ask, Slice}
 use Rattle.sw_job.specs.declared.turn.Given.TheVariants.{Nothing, Value as GivenValue}
 use Rattle.sw_job.specs.declared.code.FuncCode.{FuncCode}
-use Rattle.sw_job.specs.Machine.{frame, instr_in, fetch, is_take, is_int, printed, Gives, Traps, CodeNext, CodeGoes, CodeStops, CodeBad, on_value, on_text, on_operand, on_outcome, at_take, not_take, code_give, code_act, code_act_at, code_step, code_then, code_run, code_begin, CodeStuck}
+use Rattle.sw_job.specs.Machine.{frame, instr_in, fetch, is_take, CodeNext, CodeGoes, CodeStops, CodeBad, on_value, on_text, on_operand, on_outcome, at_take, not_take, code_give, code_act, code_act_at, code_step, code_then, code_run, code_begin, CodeStuck}
+use Rattle.sw_job.specs.Values.{is_int, printed, Gives, Traps}
 use Rattle.sw_job.specs.Typed.{ty_of, types_of, result_of, Goes, Waits, IsPrintable, Agrees, IsTyped, TypedCallers, TypedFrames, NeverStuck, size_of, ahead, all_ahead, Safe, EachStepIsSafe, Begins, EachStartBegins}
 
 -- a place with an instruction is before the end

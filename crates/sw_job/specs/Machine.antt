@@ -1,10 +1,7 @@
 -- What the job machine does with code: one instruction, a run, and what the start of a turn hands in.
-use Rattle.std.specs.Fmt.{signed_decimal}
-use Rattle.std.specs.Prelude.{◌≡◌, ℕ, ℤ, ◌+ℤ◌, pos, negsuc, int_lt, not, ◌&&◌, zero, suc, ◌+◌, nat_lt, List, [], ◌∷◌, Option, Some, None, drop, slice_get, Bool, true, false, if◌then◌else◌}
+use Rattle.std.specs.Prelude.{◌≡◌, ℕ, zero, suc, ◌+◌, nat_lt, List, [], ◌∷◌, Option, Some, None, drop, slice_get, Bool, true, false, if◌then◌else◌}
 use Rattle.sw_job.specs.declared.value.Value.{Value}
 use Rattle.sw_job.specs.declared.value.Value.TheVariants.{Int, Str, Void}
-use Rattle.sw_job.specs.declared.value.TrapKind.{TrapKind}
-use Rattle.sw_job.specs.declared.value.TrapKind.TheVariants.{Overflow}
 use Rattle.sw_job.specs.declared.instr.Instr.{Instr}
 use Rattle.sw_job.specs.declared.instr.Instr.TheVariants.{Begin, PushInt, PushStr, Load, Add, Print, Take, Discard, ReturnVoid}
 use Rattle.sw_job.specs.declared.turn.Operand.{Operand}
@@ -16,6 +13,7 @@ use Rattle.sw_job.specs.declared.turn.Exit.TheVariants.{Ask, Return, Trap, Slice
 use Rattle.sw_job.specs.declared.turn.Given.{Given}
 use Rattle.sw_job.specs.declared.turn.Given.TheVariants.{Nothing, Value as GivenValue}
 use Rattle.sw_job.specs.declared.code.FuncCode.{FuncCode}
+use Rattle.sw_job.specs.Values.{printed, Outcome, Gives, Traps, Wrong, sum_of}
 
 abbrev pub frame : ℕ → ℕ → List Operand → Frame
 frame func place operands = record { func = record { 0 = func }; place = place; operands = operands }
@@ -27,26 +25,6 @@ instr_in (Some f) place = slice_get f.instrs place
 -- the instruction at a place of a func
 abbrev pub fetch : List FuncCode → ℕ → ℕ → Option Instr
 fetch code func place = instr_in (slice_get code func) place
-
--- the text of a value that can be printed
-abbrev pub printed : Value → Option (List ℕ)
-printed (Int n) = Some (signed_decimal n)
-printed (Str text) = Some text
-printed Void = None
-
--- what an operator gives: a value, or a trap, or nothing where it has no meaning for these values
-pub data Outcome : Type 0 where
-  Gives : Value → Outcome
-  Traps : TrapKind → Outcome
-  Wrong : Outcome
-
--- whether a number is an `Int` of 64 bits
-abbrev pub is_int : ℤ → Bool
-is_int n = not (int_lt n (negsuc 9223372036854775807)) && int_lt n (pos 9223372036854775808)
-
-abbrev pub sum_of : Value → Value → Outcome
-sum_of (Int a) (Int b) = if is_int (a +ℤ b) then Gives (Int (a +ℤ b)) else Traps Overflow
-sum_of _ _ = Wrong
 
 -- what an instruction leads to: a frame over its callers with the statements begun so far; or an exit, with
 -- the frames that are left; or nothing, where it has no meaning

@@ -11,6 +11,3 @@ pub use code::{Code, FuncCode, Shape};
 pub use instr::Instr;
 pub use turn::{Ask, Exit, Frame, Frames, Given, Operand, TurnEnd, TurnStart};
 pub use value::{TrapKind, Ty, Value};
-
-#[cfg(test)]
-mod tests;

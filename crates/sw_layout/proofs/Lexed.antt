@@ -21,7 +21,7 @@ use Rattle.sw_lex.specs.Strings.{bytes_of}
 use Rattle.sw_lex.specs.Forms.{HasForm, IsWord as BeginsWord, IsMark}
 use Rattle.sw_lex.specs.Cut.{Opens, Cut, after, closes, is_inside, IsGood}
 use Rattle.sw_lex.specs.Rules.{BreaksNone}
-use Rattle.sw_lex.specs.Tokens.{StandFor, IsTextOf, beyond, AreTokens, end_place, start, CutsInto}
+use Rattle.sw_lex.specs.Tokens.{StandFor, IsTextOf, beyond, AreTokens, end_place, place_at, start, CutsInto}
 use Rattle.sw_layout.specs.Rows.{IsWord, IsDigits, Fits}
 use Rattle.sw_layout.specs.Lexed.{AreFit}
 use Rattle.sw_layout.proofs.Utf8.{rest_utf8, front_utf8, low_utf8, text_utf8}
@@ -190,4 +190,4 @@ lexed_fit source tokens cut none =
   where
     good : IsGood source cut.whole.good → IsUtf8 source
     good (inl g) = g.1
-    good (inr v) = absurd (none L1 cut.whole.good v)
+    good (inr v) = absurd (none (record { rule = L1; span = place_at source cut.whole.good }) (cut.whole.good, v, refl))

@@ -11,6 +11,3 @@ mod spelling;
 pub use gap::Gap;
 pub use laws::{cut_again, lexed_fit, questions_apart, unbroken};
 pub use spelling::fixed;
-
-#[cfg(test)]
-mod tests;

@@ -7,7 +7,7 @@ use Rattle.sw_lex.specs.declared.token.TokenKind.TheVariants.{Name}
 use Rattle.sw_lex.specs.declared.token.Token.{Token}
 use Rattle.sw_lex.specs.Bytes.{Text}
 use Rattle.sw_lex.specs.Tables.{is_same_text}
-use Rattle.sw_lex.specs.declared.tokens.Entry.{Entry}
+use Rattle.sw_lex.specs.declared.kept.Entry.{Entry}
 use Rattle.sw_lex.specs.Kept.{token_in, tokens_in, AreKept, IsGrown}
 
 both : (s t : Bool) → (s && t) ≡ true → (s ≡ true) × (t ≡ true)

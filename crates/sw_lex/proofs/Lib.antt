@@ -18,7 +18,10 @@ mod CharacterLemmas
 mod MarkLemmas
 mod SeamLemmas
 mod ReadingLemmas
+mod SomeCut
 mod TellLemmas
 mod EndLemmas
+mod InOrder
 mod WholeLemmas
+mod LongLemmas
 mod KeptLemmas

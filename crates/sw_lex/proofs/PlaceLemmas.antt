@@ -8,7 +8,7 @@ use Rattle.sw_lex.specs.Bytes.{Text}
 use Rattle.sw_lex.specs.Tokens.{behind, moved, origin, place_at}
 use Rattle.sw_lex.specs.Scanning.{IsNear}
 
-stands_more : (a b c : Span) → StandsBefore a b → StandsBefore b c → StandsBefore a c
+pub stands_more : (a b c : Span) → StandsBefore a b → StandsBefore b c → StandsBefore a c
 stands_more a b c (inl p) (inl q) = inl (omega (arith, p, q))
 stands_more a b c (inl p) (inr q) = inl (omega (arith, p, q.0))
 stands_more a b c (inr p) (inl q) = inl (omega (arith, p.0, q))
@@ -25,7 +25,7 @@ behind_some : (place : Span) (byte : ℕ) (bytes : Text) → StandsBefore place 
 behind_some place byte [] = behind_one place byte
 behind_some place byte (next ∷ bytes) = stands_more place (behind place byte) (moved (behind (behind place byte) next) bytes) (behind_one place byte) (behind_some (behind place byte) next bytes)
 
-moves : (place : Span) (a b : ℕ) (bytes : Text) → a < b → b ≤ length bytes → StandsBefore (moved place (take a bytes)) (moved place (take b bytes))
+pub moves : (place : Span) (a b : ℕ) (bytes : Text) → a < b → b ≤ length bytes → StandsBefore (moved place (take a bytes)) (moved place (take b bytes))
 moves place a zero bytes p l = absurd (omega arith)
 moves place a (suc b) [] p l = absurd (omega arith)
 moves place zero (suc b) (byte ∷ bytes) p l = behind_some place byte (take b bytes)
@@ -53,8 +53,11 @@ moved_last place (suc n) bytes some within =
     subst (λ k. behind (moved place (take k bytes)) (slice_index bytes k) ≡ moved place (take (suc n) bytes)) (sym less) (moved_one place n bytes (omega arith))
 
 -- the place so many bytes behind an offset
+pub moved_more : (place : Span) (bytes : Text) (at n : ℕ) → moved (moved place (take at bytes)) (take n (drop at bytes)) ≡ moved place (take (at + n) bytes)
+moved_more place bytes at n = sym (ap (moved place) (take-add at n bytes) ∙ moved_append place (take at bytes) (take n (drop at bytes)))
+
 pub place_more : (source : Text) (at n : ℕ) → moved (place_at source at) (take n (drop at source)) ≡ place_at source (at + n)
-place_more source at n = sym (ap (moved origin) (take-add at n source) ∙ moved_append origin (take at source) (take n (drop at source)))
+place_more source at n = moved_more origin source at n
 
 moved_near : (place : Span) (n : ℕ) (bytes : Text) → place.line ≤ 1 + n → place.column ≤ 1 + n → IsNear (n + length bytes) (moved place bytes)
 moved_near place n [] l c = (omega arith, omega arith)

@@ -2,7 +2,6 @@
 use Rattle.std.proofs.Common.{◌≡◌, ◌<◌, ◌≤◌, ◌⊎◌, ℕ, ◌+◌, Bool, true, false, cond, Option, Some, None, List, [], ◌∷◌, length, take, drop, refl, ap, sym, ◌∙◌, subst, arith, nat_lt}
 use Rattle.std.proofs.lemmas.Grind.{common_steps}
 use mathlib.Core.Logic.{inl, inr}
-use Rattle.std.specs.Prelude.{IfSome}
 use Rattle.std.specs.Str.{IsUtf8, IsValidUpTo}
 use Rattle.std.specs.Str.Lossy.{utf8_valid_len}
 use Rattle.std.proofs.lemmas.Str.{utf8_valid_len-IsUtf8, utf8_valid_len-IsValidUpTo}
@@ -14,17 +13,14 @@ use Rattle.sw_lex.specs.declared.forms.Begin.TheVariants.{End, Gap, Token, Forml
 use Rattle.sw_lex.specs.Bytes.{Text}
 use Rattle.sw_lex.specs.Forms.{size_of, IsStop}
 use Rattle.sw_lex.specs.Cut.{Cut, CutOf, IsGood}
-use Rattle.sw_lex.specs.declared.places.Spot.{Spot}
-use Rattle.sw_lex.specs.Tokens.{place_at}
-use Rattle.sw_lex.specs.Scanning.{IsSpot, by_offset}
 use Rattle.sw_lex.specs.Rules.{Breaks, IsStopPlace, StopsAt}
-use Rattle.sw_lex.specs.Finding.{FindsTooLarge, Found, IsBefore, IsFirst, bad_found, is_too_large, large_at, large_found, long_found, stop_at, stop_found}
+use Rattle.sw_lex.specs.Finding.{FindsTooLarge, Found, IsBefore, IsFirst, bad_found, is_too_large, large_at, large_found, stop_at, stop_found}
 use Rattle.sw_lex.proofs.OneCut.{not_short, one_length, one_whole}
 use Rattle.sw_lex.proofs.LargeLemmas.{has_large, large_found_at}
 use Rattle.sw_lex.proofs.StopLemmas.{stop_place, one_place}
 use Rattle.sw_lex.proofs.FirstLemmas.{pair, before_same, first_same, first_union}
 
--- ---- the kinds of rules, each by itself
+-- ---- the kinds of rules that a source may break which is not too long, each by itself
 
 abbrev BreaksBytes : Text → Rule → ℕ → Type 0
 BreaksBytes source rule at = (rule ≡ L1) × IsValidUpTo source at
@@ -35,29 +31,25 @@ BreaksForm source rule at = ((rule ≡ L2) × StopsAt source Formless at) ⊎ ((
 abbrev BreaksSize : Text → Rule → ℕ → Type 0
 BreaksSize source rule at = (rule ≡ L4) × ((whole : CutOf source) × FindsTooLarge 0 source whole.items at)
 
-abbrev BreaksLength : Text → Rule → ℕ → Type 0
-BreaksLength source rule at = (rule ≡ L5) × ((at ≡ 0) × (1048576 < length source))
-
 abbrev BreaksAny : Text → Rule → ℕ → Type 0
-BreaksAny source rule at = ((BreaksBytes source rule at ⊎ BreaksForm source rule at) ⊎ BreaksSize source rule at) ⊎ BreaksLength source rule at
+BreaksAny source rule at = (BreaksBytes source rule at ⊎ BreaksForm source rule at) ⊎ BreaksSize source rule at
 
 breaks_of : (source : Text) (rule own : Rule) (at : ℕ) → rule ≡ own → Breaks source own at → Breaks source rule at
 breaks_of source rule own at e h = subst (λ (r : Rule). Breaks source r at) (sym e) h
 
 any_breaks : (source : Text) (rule : Rule) (at : ℕ) → BreaksAny source rule at → Breaks source rule at
-any_breaks source rule at (inl (inl (inl h))) = breaks_of source rule L1 at h.0 h.1
-any_breaks source rule at (inl (inl (inr (inl h)))) = breaks_of source rule L2 at h.0 h.1
-any_breaks source rule at (inl (inl (inr (inr h)))) = breaks_of source rule L3 at h.0 h.1
-any_breaks source rule at (inl (inr h)) = breaks_of source rule L4 at h.0 (has_large source h.1.0 at h.1.1)
-any_breaks source rule at (inr h) = breaks_of source rule L5 at h.0 h.1
+any_breaks source rule at (inl (inl h)) = breaks_of source rule L1 at h.0 h.1
+any_breaks source rule at (inl (inr (inl h))) = breaks_of source rule L2 at h.0 h.1
+any_breaks source rule at (inl (inr (inr h))) = breaks_of source rule L3 at h.0 h.1
+any_breaks source rule at (inr h) = breaks_of source rule L4 at h.0 (has_large source h.1.0 at h.1.1)
 
-breaks_any : (source : Text) (rule : Rule) (at : ℕ) → Breaks source rule at → BreaksAny source rule at
-breaks_any source L1 at h = inl (inl (inl (refl, h)))
-breaks_any source L2 at h = inl (inl (inr (inl (refl, h))))
-breaks_any source L3 at h = inl (inl (inr (inr (refl, h))))
-breaks_any source L4 at h = inl (inr (refl, large_found_at source at h))
-breaks_any source L5 at h = inr (refl, h)
-breaks_any source rule at h = absurd h
+breaks_any : (source : Text) → length source ≤ 1048576 → (rule : Rule) (at : ℕ) → Breaks source rule at → BreaksAny source rule at
+breaks_any source short L1 at h = inl (inl (refl, h))
+breaks_any source short L2 at h = inl (inr (inl (refl, h)))
+breaks_any source short L3 at h = inl (inr (inr (refl, h)))
+breaks_any source short L4 at h = inr (refl, large_found_at source at h)
+breaks_any source short L5 at h = absurd (omega (arith, short, h.1))
+breaks_any source short rule at h = absurd h
 
 before_of : (own rule : Rule) (at place : ℕ) → rule ≡ own → at ≡ place → IsBefore own at rule place
 before_of own rule at place e f = subst (λ (r : Rule). IsBefore own at r place) (sym e) (before_same own at place f)
@@ -130,7 +122,7 @@ stop_first source good items (Token kind n) g c s = absurd s
 
 -- ---- integers that are too large
 
-large_behind : (at place : ℕ) (bytes : Text) (items : List Begin) → FindsTooLarge at bytes items place → at ≤ place
+pub large_behind : (at place : ℕ) (bytes : Text) (items : List Begin) → FindsTooLarge at bytes items place → at ≤ place
 large_behind at place bytes [] h = absurd h
 large_behind at place bytes (item ∷ items) (inl h) = omega (arith, h.0)
 large_behind at place bytes (item ∷ items) (inr h) = omega (arith, large_behind (at + size_of item) place (drop (size_of item) bytes) items h)
@@ -169,50 +161,16 @@ large_first source good items stop g c = go (large_at 0 source items) (first_lar
     go None k = λ rule at h. k at (same at h.1)
     go (Some found) k = ((refl, (whole, k.0)), λ rule at h. before rule found at h.0 (k.1 at (same at h.1)))
 
--- ---- sources that are too long
-
-long_first : (source : Text) → IsFirst (BreaksLength source) (long_found source)
-long_first source = go (nat_lt 1048576 (length source)) refl
-  where
-    go : (t : Bool) → nat_lt 1048576 (length source) ≡ t → IsFirst (BreaksLength source) (cond t (Some (pair L5 0)) None)
-    go true t = let l : 1048576 < length source = grind (arith, common_steps) in ((refl, (refl, l)), λ rule at h. before_of L5 rule 0 at h.0 (sym h.1.0))
-    go false t = let l : length source ≤ 1048576 = grind (arith, common_steps) in λ rule at h. absurd (omega (arith, l, h.1.1))
-
 -- ---- all of them
 
-pub first_of_all : (source : Text) (good : ℕ) (items : List Begin) (stop : Begin) (c d found : Found) → IsGood source good → Cut [] good source items stop → IsStop stop
+pub first_of_all : (source : Text) (good : ℕ) (items : List Begin) (stop : Begin) (c found : Found) → length source ≤ 1048576 → IsGood source good → Cut [] good source items stop → IsStop stop
     → IsFirst (λ r o. (bad_found source good ≡ Some (pair r o)) ⊎ (stop_found stop items ≡ Some (pair r o))) c
-    → IsFirst (λ r o. (c ≡ Some (pair r o)) ⊎ (large_found (large_at 0 source items) ≡ Some (pair r o))) d
-    → IsFirst (λ r o. (d ≡ Some (pair r o)) ⊎ (long_found source ≡ Some (pair r o))) found
+    → IsFirst (λ r o. (c ≡ Some (pair r o)) ⊎ (large_found (large_at 0 source items) ≡ Some (pair r o))) found
     → IsFirst (Breaks source) found
-first_of_all source good items stop c d found g cut s h k l =
+first_of_all source good items stop c found short g cut s h k =
     let two = first_union (BreaksBytes source) (BreaksForm source) _ _ c (bad_first source good g) (stop_first source good items stop g cut s) h in
-    let three = first_union (λ r o. BreaksBytes source r o ⊎ BreaksForm source r o) (BreaksSize source) c _ d two (large_first source good items stop g cut) k in
-    let four = first_union (λ r o. (BreaksBytes source r o ⊎ BreaksForm source r o) ⊎ BreaksSize source r o) (BreaksLength source) d _ found three (long_first source) l in
-    first_same (BreaksAny source) (Breaks source) found (any_breaks source) (breaks_any source) four
-
--- Where a source is too long, what is found stands at its start; so its place is known.
-pub first_placed : (source : Text) (found : Option (Rule × Spot)) → IsFirst (Breaks source) (by_offset found) → IfSome found (λ x. IsSpot source x.1)
-    → IfSome found (λ x. x.1.place ≡ place_at source x.1.at)
-first_placed source None h k = tt
-first_placed source (Some x) h k = go (nat_lt 1048576 (length source)) refl
-  where
-    start : IsBefore x.0 x.1.at L5 0 → x.1.at ≡ 0
-    start (inl p) = omega (arith, p)
-    start (inr p) = omega (arith, p.0)
-
-    go : (t : Bool) → nat_lt 1048576 (length source) ≡ t → x.1.place ≡ place_at source x.1.at
-    go true t = let l : 1048576 < length source = grind (arith, common_steps) in k.1 l ∙ ap (place_at source) (sym (start (h.1 L5 0 (refl, l))))
-    go false t = let l : length source ≤ 1048576 = grind (arith, common_steps) in k.0 l
-
--- where nothing is found, the source is not too long
-pub first_short : (source : Text) (found : Found) → IsFirst (Breaks source) found → found ≡ None → length source ≤ 1048576
-first_short source None h f = go (nat_lt 1048576 (length source)) refl
-  where
-    go : (t : Bool) → nat_lt 1048576 (length source) ≡ t → length source ≤ 1048576
-    go true t = let l : 1048576 < length source = grind (arith, common_steps) in absurd (h L5 0 (refl, l))
-    go false t = grind (arith, common_steps)
-first_short source (Some x) h f = absurd (cc)
+    let three = first_union (λ r o. BreaksBytes source r o ⊎ BreaksForm source r o) (BreaksSize source) c _ found two (large_first source good items stop g cut) k in
+    first_same (BreaksAny source) (Breaks source) found (any_breaks source) (breaks_any source short) three
 
 -- where nothing is broken, the cut stops at the end
 pub stops_at_end : (source : Text) (whole : CutOf source) → IsStop whole.stop → IsFirst (Breaks source) None → whole.stop ≡ End

@@ -1,6 +1,5 @@
 -- What is known behind one more gap or token, and behind all of them.
-use Rattle.std.proofs.Common.{◌≡◌, ◌<◌, ◌≤◌, ℕ, ◌+◌, ◌-◌, Bool, true, false, not, cond, Option, Some, None, List, [], ◌∷◌, ◌++◌, length, take, drop, refl, ap, sym, ◌∙◌, subst, arith, append_assoc, append-nil, nat_lt}
-use Rattle.std.proofs.lemmas.Grind.{common_steps}
+use Rattle.std.proofs.Common.{◌≡◌, ◌≤◌, ℕ, ◌+◌, ◌-◌, Bool, true, false, not, cond, Option, Some, None, List, [], ◌∷◌, ◌++◌, length, take, drop, refl, ap, sym, ◌∙◌, subst, arith, append_assoc, append-nil}
 use Rattle.std.proofs.lemmas.List.{drop-drop}
 use Rattle.std.specs.Prelude.{IfSome}
 use Rattle.sw_base.specs.declared.ids.Span.{Span}
@@ -19,7 +18,7 @@ use Rattle.sw_lex.specs.Telling.{said, told}
 use Rattle.sw_lex.specs.Finding.{is_too_large, large_at, stop_at}
 use Rattle.std.specs.Str.Lossy.{utf8_valid_len}
 use Rattle.sw_lex.specs.Characters.{IsFront, IsSeam, good_ahead}
-use Rattle.sw_lex.specs.Scanning.{ArePlaces, IsNear, IsPlaceOf, IsSpot, Known, Read, first_large, here, next, nothing_cut, or_later, outermost, told_behind}
+use Rattle.sw_lex.specs.Scanning.{ArePlaces, IsNear, IsSpot, Known, Read, first_large, here, next, nothing_cut, or_later, outermost, told_behind}
 use Rattle.sw_lex.proofs.CutLemmas.{cut_more, total_more, stop_of as stop_is}
 use Rattle.sw_lex.specs.Reading.{IsWithin}
 use Rattle.sw_lex.proofs.ReadingLemmas.{reads}
@@ -30,18 +29,8 @@ use Rattle.std.proofs.lemmas.Str.{IsUtf8-nil}
 use Rattle.std.specs.Option.{is_none, is_some}
 use mathlib.Core.Logic.{inr}
 
--- a source is too long, or is not
-by_length : (P : Type 0) (source : Text) → (length source ≤ 1048576 → P) → (1048576 < length source → P) → P
-by_length P source short long = go (nat_lt 1048576 (length source)) refl
-  where
-    go : (t : Bool) → nat_lt 1048576 (length source) ≡ t → P
-    go true e = long (grind (arith, common_steps))
-    go false e = short (grind (arith, common_steps))
-
-pub spot_near : (source : Text) (at : ℕ) (place : Span) → IsPlaceOf source at place → IsNear at place
-spot_near source at place h = by_length (IsNear at place) source
-    (λ s. subst (λ (p : Span). IsNear at p) (sym (h.0 s)) (place_near source at))
-    (λ l. subst (λ (p : Span). IsNear at p) (sym (h.1 l)) (omega arith, omega arith))
+pub spot_near : (source : Text) (at : ℕ) (place : Span) → place ≡ place_at source at → IsNear at place
+spot_near source at place h = subst (λ (p : Span). IsNear at p) (sym h) (place_near source at)
 
 -- ---- nothing is cut
 
@@ -57,11 +46,11 @@ known_start source =
       front = IsUtf8-nil;
       stop = λ later. refl;
       large = λ later. refl;
-      told = λ short end later. refl;
+      told = λ end later. refl;
       places = record {
-        here = (λ short. refl, λ long. refl);
-        last = λ short some. absurd (omega (arith, some));
-        outer = (λ short. refl, λ long. refl);
+        here = refl;
+        last = λ some. absurd (omega (arith, some));
+        outer = refl;
         bad = tt;
         large = tt;
       };
@@ -73,7 +62,7 @@ more_items : (items later : List Begin) (item : Begin) → (items ++ item ∷ []
 more_items items later item = append_assoc items (item ∷ []) later
 
 -- where the cut stops
-stop_more : (at outer : ℕ) (opens : Opens) (items later : List Begin) (item : Begin) (t : ℕ) → t ≡ cond (is_inside opens) outer at
+pub stop_more : (at outer : ℕ) (opens : Opens) (items later : List Begin) (item : Begin) (t : ℕ) → t ≡ cond (is_inside opens) outer at
     → stop_at at outer opens (item ∷ later) ≡ stop_at 0 0 [] (items ++ item ∷ later)
     → stop_at (at + size_of item) t (after opens item) later ≡ stop_at 0 0 [] ((items ++ item ∷ []) ++ later)
 stop_more at outer opens items later item t e h =
@@ -123,7 +112,7 @@ large_spot source None bytes item here p q = go (is_too_large bytes item)
     go true = q
     go false = tt
 
--- behind a gap or a token, where of a source that is too long nothing is told
+-- behind a gap or a token
 abbrev scan_behind : Text → Scan → Begin → Option Spot → Told → Scan
 scan_behind source scan item bad so_far = record {
   at = scan.at + size_of item;
@@ -137,16 +126,13 @@ scan_behind source scan item bad so_far = record {
 places_more :
     (source : Text) (scan : Scan) (item : Begin) (bad : Option Spot) (so_far : Told)
     → ArePlaces source scan → 1 ≤ size_of item → IfSome bad (IsSpot source)
-    → (length source ≤ 1048576 → so_far ≡ told_behind scan.told (drop scan.at source) item) → (1048576 < length source → so_far ≡ scan.told)
+    → so_far ≡ told_behind scan.told (drop scan.at source) item
     → ArePlaces source (scan_behind source scan item bad so_far)
-places_more source scan item bad so_far known some placed short long =
+places_more source scan item bad so_far known some placed same =
     let rest : Text = drop scan.at source in
     let now = scan.told.here in record {
-      here = (
-        λ s. ap (λ (t : Told). t.here.place) (short s) ∙ beyond_place now rest item some ∙ place_behind source scan.at (size_of item) (scan.at + size_of item) now.place (known.here.0 s) refl,
-        λ l. ap (λ (t : Told). t.here.place) (long l) ∙ known.here.1 l,
-      );
-      last = λ s behind. ap (λ (t : Told). t.last) (short s) ∙ place_behind source scan.at (size_of item - 1) (scan.at + size_of item - 1) now.place (known.here.0 s) (omega (arith, some));
+      here = ap (λ (t : Told). t.here.place) same ∙ beyond_place now rest item some ∙ place_behind source scan.at (size_of item) (scan.at + size_of item) now.place known.here refl;
+      last = λ behind. ap (λ (t : Told). t.last) same ∙ place_behind source scan.at (size_of item - 1) (scan.at + size_of item - 1) now.place known.here (omega (arith, some));
       outer = outer_spot source scan.opens scan.outer (here scan) known.outer known.here;
       bad = placed;
       large = large_spot source scan.large rest item (here scan) known.large known.here;
@@ -170,9 +156,9 @@ known_behind :
     (source : Text) (scan : Scan) (item : Begin) (bad : Option Spot) (so_far : Told)
     → Known source scan → item ≡ next scan source → 1 ≤ size_of item → scan.at + size_of item ≤ length source
     → IsFront source (scan.at + size_of item) bad → IfSome bad (IsSpot source)
-    → (length source ≤ 1048576 → so_far ≡ told_behind scan.told (drop scan.at source) item) → (1048576 < length source → so_far ≡ scan.told)
+    → so_far ≡ told_behind scan.told (drop scan.at source) item
     → Known source (scan_behind source scan item bad so_far)
-known_behind source scan item bad so_far known begun some within front placed short long = record {
+known_behind source scan item bad so_far known begun some within front placed same = record {
   items = known.items ++ item ∷ [];
   cut = λ later stop h. cut_more scan.opens (after scan.opens item) (utf8_valid_len source) scan.at (size_of item) source known.items (known.items ++ item ∷ []) later item stop (sym begun) refl (omega (arith, some)) refl refl known.cut h;
   ends = total_more known.items item ∙ ap (λ n. n + size_of item) known.ends;
@@ -181,8 +167,8 @@ known_behind source scan item bad so_far known begun some within front placed sh
   stop = λ later. stop_more scan.at scan.outer.at scan.opens known.items later item (outermost scan.opens scan.outer (here scan)).at (outer_at scan.opens scan.outer (here scan)) (known.stop (item ∷ later));
   large = λ later. or_first scan.large (here scan) (drop scan.at source) (drop (scan.at + size_of item) source) later item (sym (drop-drop (size_of item) scan.at source)) ∙ known.large (item ∷ later)
       ∙ ap (λ (xs : List Begin). large_at 0 source xs) (sym (more_items known.items later item));
-  told = λ s end later. told_more source scan item known.items so_far end (known.told s end) (short s) later;
-  places = places_more source scan item bad so_far known.places some placed short long;
+  told = λ end later. told_more source scan item known.items so_far end (known.told end) same later;
+  places = places_more source scan item bad so_far known.places some placed same;
 }
 
 -- the same, part by part
@@ -192,14 +178,14 @@ pub known_more :
     → at ≡ scan.at + size_of item → opens ≡ after scan.opens item → outer ≡ outermost scan.opens scan.outer (here scan)
     → large ≡ first_large scan.large (drop scan.at source) item (here scan)
     → IsFront source (scan.at + size_of item) bad → IfSome bad (IsSpot source)
-    → (length source ≤ 1048576 → so_far ≡ told_behind scan.told (drop scan.at source) item) → (1048576 < length source → so_far ≡ scan.told)
+    → so_far ≡ told_behind scan.told (drop scan.at source) item
     → Known source (record { at = at; opens = opens; outer = outer; bad = bad; large = large; told = so_far })
-known_more source scan item at opens outer bad large so_far known begun some within a o u l front placed short long =
+known_more source scan item at opens outer bad large so_far known begun some within a o u l front placed same =
     subst (λ (n : ℕ). Known source (record { at = n; opens = opens; outer = outer; bad = bad; large = large; told = so_far })) (sym a)
     (subst (λ (w : Opens). Known source (record { at = scan.at + size_of item; opens = w; outer = outer; bad = bad; large = large; told = so_far })) (sym o)
     (subst (λ (s : Spot). Known source (record { at = scan.at + size_of item; opens = after scan.opens item; outer = s; bad = bad; large = large; told = so_far })) (sym u)
     (subst (λ (f : Option Spot). Known source (record { at = scan.at + size_of item; opens = after scan.opens item; outer = outermost scan.opens scan.outer (here scan); bad = bad; large = f; told = so_far })) (sym l)
-    (known_behind source scan item bad so_far known begun some within front placed short long))))
+    (known_behind source scan item bad so_far known begun some within front placed same))))
 
 -- ---- how many bytes from here on are characters
 
@@ -233,16 +219,14 @@ read_all source scan stop len known begun within none =
       front = known.front;
       stop_place = known.stop [] ∙ ap (λ (xs : List Begin). stop_at 0 0 [] xs) all;
       large = known.large [] ∙ ap (λ (xs : List Begin). large_at 0 source xs) all;
-      told = λ short end. known.told short end [] ∙ ap (λ (xs : List Begin). told end start source xs) all;
+      told = λ end. known.told end [] ∙ ap (λ (xs : List Begin). told end start source xs) all;
       places = known.places;
     }
 
 -- ---- a place further on
 
-pub place_ahead : (source : Text) (at n : ℕ) (here place : Span) → IsPlaceOf source at here
-    → (length source ≤ 1048576 → place ≡ moved here (take n (drop at source))) → (1048576 < length source → place ≡ here) → IsPlaceOf source (at + n) place
-place_ahead source at n here place h short long =
-    (λ s. short s ∙ place_behind source at n (at + n) here (h.0 s) refl, λ l. long l ∙ h.1 l)
+pub place_ahead : (source : Text) (at n : ℕ) (here place : Span) → here ≡ place_at source at → place ≡ moved here (take n (drop at source)) → place ≡ place_at source (at + n)
+place_ahead source at n here place h e = e ∙ place_behind source at n (at + n) here h refl
 
 pub none_is : (found : Option Spot) (none : Bool) → is_some found ≡ not none → none ≡ is_none found
 none_is found true e = sym (ap not e)

@@ -12,7 +12,7 @@ use Rattle.sw_lex.specs.declared.scan.Scan.{Scan}
 use Rattle.sw_lex.specs.Bytes.{Text}
 use Rattle.sw_lex.specs.Forms.{size_of}
 use Rattle.sw_lex.specs.Cut.{Opens, Cut, CutOf, after, total}
-use Rattle.sw_lex.specs.Tokens.{CutsInto, AreTokens, EndsOnce, end_place, origin, place_at, start, token_at}
+use Rattle.sw_lex.specs.Tokens.{AreInOrder, CutsInto, AreTokens, EndsOnce, end_place, origin, place_at, start, token_at}
 use Rattle.sw_lex.specs.Telling.{told, tokens_of}
 use Rattle.sw_lex.specs.Rules.{Breaks}
 use Rattle.sw_lex.specs.Finding.{IsFirst}
@@ -22,6 +22,7 @@ use Rattle.sw_lex.proofs.PlaceLemmas.{place_near}
 use Rattle.sw_lex.proofs.RuleLemmas.{stops_at_end}
 use Rattle.sw_lex.proofs.TellLemmas.{told_tokens}
 use Rattle.sw_lex.proofs.EndLemmas.{told_ends_once}
+use Rattle.sw_lex.proofs.InOrder.{tokens_in_order}
 use Rattle.sw_lex.proofs.OneCut.{one_list}
 
 -- a cut up to the end leaves no byte
@@ -48,7 +49,7 @@ last_place : (source : Text) (scan : Scan) (stop : Begin) → Read source scan s
     → scan.told.last ≡ place_at source (length source - 1)
 last_place source scan stop read e short some =
     let end = at_end source scan stop read e in
-    read.places.last short (omega (arith, end, some)) ∙ ap (λ n. place_at source (n - 1)) end
+    read.places.last (omega (arith, end, some)) ∙ ap (λ n. place_at source (n - 1)) end
 
 -- the column behind the last byte is one
 pub last_near : (source : Text) (scan : Scan) (stop : Begin) → Read source scan stop → IsFirst (Breaks source) None → length source ≤ 1048576 → 0 < length source
@@ -75,7 +76,7 @@ told_all : (source : Text) (scan : Scan) (stop : Begin) → (read : Read source 
     → all_told source scan ≡ tokens_of source read.items
 told_all source scan stop read unbroken short =
     let last = last_place source scan stop read (stop_end source scan stop read unbroken) short in
-    read.told short (end_of (length source) scan.told.last) ∙ ap (λ (end : Span). told end start source read.items) (end_same source scan.told.last last)
+    read.told (end_of (length source) scan.told.last) ∙ ap (λ (end : Span). told end start source read.items) (end_same source scan.told.last last)
 
 pub cuts_into : (source : Text) (scan : Scan) (stop : Begin) → Read source scan stop → IsFirst (Breaks source) None → length source ≤ 1048576
     → CutsInto source (all_told source scan)
@@ -97,3 +98,9 @@ pub ends_once : (source : Text) (scan : Scan) (stop : Begin) → Read source sca
 ends_once source scan stop read unbroken short =
     subst (λ (tokens : List Token). EndsOnce tokens) (sym (told_all source scan stop read unbroken short))
     (told_ends_once (end_place source) start [] (utf8_valid_len source) source read.items stop read.cut)
+
+pub in_order : (source : Text) (scan : Scan) (stop : Begin) → Read source scan stop → IsFirst (Breaks source) None → length source ≤ 1048576
+    → AreInOrder (all_told source scan)
+in_order source scan stop read unbroken short =
+    subst (λ (tokens : List Token). AreInOrder tokens) (sym (told_all source scan stop read unbroken short))
+    (tokens_in_order source (utf8_valid_len source) read.items stop read.cut (omega (arith, read.ends, read.inside)))

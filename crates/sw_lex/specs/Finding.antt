@@ -1,7 +1,7 @@
 -- Machinery, for private contracts alone: what the code finds of each rule in a cut, and the first by offset.
 use Rattle.std.specs.Prelude.{◌≡◌, ◌≤◌, ◌<◌, ◌⊎◌, ℕ, ◌+◌, Bool, true, false, if◌then◌else◌, nat_lt, List, [], ◌∷◌, take, drop, length, Option, Some, None}
 use Rattle.sw_rules.specs.declared.Rule.{Rule}
-use Rattle.sw_rules.specs.declared.Rule.TheVariants.{L1, L2, L3, L4, L5}
+use Rattle.sw_rules.specs.declared.Rule.TheVariants.{L1, L2, L3, L4}
 use Rattle.sw_rules.specs.Rule.{rule_order}
 use Rattle.sw_lex.specs.declared.token.TokenKind.TheVariants as k
 use Rattle.sw_lex.specs.declared.forms.Begin.{Begin}
@@ -60,7 +60,3 @@ large_at at bytes (item ∷ items) = if is_too_large bytes item then Some at els
 abbrev pub large_found : Option ℕ → Found
 large_found None = None
 large_found (Some at) = Some (L4, at)
-
--- a source that is too long
-abbrev pub long_found : Text → Found
-long_found source = if nat_lt 1048576 (length source) then Some (L5, 0) else None

@@ -1,7 +1,7 @@
 -- Machinery, for private contracts and the view of a list of tokens: the tokens that are kept with the numbers of their texts.
 use Rattle.std.specs.Prelude.{◌≡◌, ◌<◌, List, [], ◌∷◌, ◌++◌, map, length, slice_index_or}
 use Rattle.sw_lex.specs.declared.token.Token.{Token}
-use Rattle.sw_lex.specs.declared.tokens.Entry.{Entry}
+use Rattle.sw_lex.specs.declared.kept.Entry.{Entry}
 use Rattle.sw_lex.specs.Bytes.{Text}
 
 -- the token that is kept, with its text found among these

@@ -13,4 +13,5 @@ pub mod Telling
 pub mod Finding
 pub mod Characters
 pub mod Scanning
+pub mod Long
 pub mod Kept

@@ -1,10 +1,10 @@
--- The rules that a source breaks before it is parsed, each at its place, and the first of them.
-use Rattle.std.specs.Prelude.{◌≡◌, ◌≤◌, ◌<◌, ◌⊎◌, ℕ, ◌+◌, ◌-◌, ◌*◌, true, false, if◌then◌else◌, ◌==◌, List, [], ◌∷◌, take, drop, length}
+-- The rules that a source breaks before it is parsed, each at its place.
+use Rattle.std.specs.Prelude.{◌≡◌, ◌≤◌, ◌<◌, ℕ, ◌+◌, ◌-◌, ◌*◌, true, false, if◌then◌else◌, ◌==◌, List, [], ◌∷◌, take, drop, length}
 use Rattle.std.specs.Str.{IsValidUpTo}
 use Rattle.sw_rules.specs.declared.Rule.{Rule}
 use Rattle.sw_rules.specs.declared.Rule.TheVariants.{L1, L2, L3, L4, L5}
 use Rattle.sw_rules.specs.declared.Refusal.{Refusal}
-use Rattle.sw_rules.specs.Refusal.{Precedes}
+use Rattle.sw_rules.specs.Pass.{RefusesNone}
 use Rattle.sw_lex.specs.declared.token.TokenKind.TheVariants as k
 use Rattle.sw_lex.specs.declared.forms.Begin.{Begin}
 use Rattle.sw_lex.specs.declared.forms.Begin.TheVariants.{Token, Formless, Unclosed}
@@ -53,14 +53,10 @@ Breaks source L4 at = HasTooLarge source at
 Breaks source L5 at = (at ≡ 0) × (1048576 < length source)
 Breaks source rule at = ⊥
 
--- the source breaks none of these rules
-abbrev pub BreaksNone : Text → Type 0
-BreaksNone source = (rule : Rule) (at : ℕ) → Breaks source rule at → ⊥
-
--- the refusal names a rule that the source breaks, and its place
+-- the pass over tokens: the source breaks the rule at the place
 abbrev pub Refuses : Text → Refusal → Type 0
 Refuses source refusal = (at : ℕ) × Breaks source refusal.rule at × (refusal.span ≡ place_at source at)
 
--- it does, and it precedes each other that does
-abbrev pub IsFirstBroken : Text → Refusal → Type 0
-IsFirstBroken source refusal = Refuses source refusal × ((other : Refusal) → Refuses source other → (other ≡ refusal) ⊎ Precedes refusal other)
+-- the source breaks none of these rules
+abbrev pub BreaksNone : Text → Type 0
+BreaksNone source = RefusesNone (Refuses source)

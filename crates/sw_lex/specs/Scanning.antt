@@ -24,13 +24,9 @@ use Rattle.sw_lex.specs.Finding.{Found, is_too_large, large_at, stop_at}
 abbrev pub IsNear : ℕ → Span → Type 0
 IsNear at place = (place.line ≤ 1 + at) × (place.column ≤ 1 + at)
 
--- The place of an offset. Of a source that is too long no place is kept but that of its first byte.
-abbrev pub IsPlaceOf : Text → ℕ → Span → Type 0
-IsPlaceOf source at place = (length source ≤ 1048576 → place ≡ place_at source at) × (1048576 < length source → place ≡ origin)
-
 -- the byte at this offset stands at this place
 abbrev pub IsSpot : Text → Spot → Type 0
-IsSpot source spot = IsPlaceOf source spot.at spot.place
+IsSpot source spot = spot.place ≡ place_at source spot.at
 
 -- one column after the last of so many bytes, if there is one
 abbrev pub end_of : ℕ → Span → Span
@@ -88,8 +84,8 @@ stop_of scan = if is_inside scan.opens then scan.outer.at else scan.at
 
 -- the places of what was met so far
 pub record ArePlaces (source : Text) (scan : Scan) : Type 0 where
-  pub here : IsPlaceOf source scan.at scan.told.here.place
-  pub last : length source ≤ 1048576 → 0 < scan.at → scan.told.last ≡ place_at source (scan.at - 1)
+  pub here : scan.told.here.place ≡ place_at source scan.at
+  pub last : 0 < scan.at → scan.told.last ≡ place_at source (scan.at - 1)
   pub outer : IsSpot source scan.outer
   pub bad : IfSome scan.bad (IsSpot source)
   pub large : IfSome scan.large (IsSpot source)
@@ -103,7 +99,7 @@ pub record Known (source : Text) (scan : Scan) : Type 0 where
   pub front : IsFront source scan.at scan.bad
   pub stop : (later : List Begin) → stop_at scan.at scan.outer.at scan.opens later ≡ stop_at 0 0 [] (items ++ later)
   pub large : (later : List Begin) → or_later scan.large (large_at scan.at (drop scan.at source) later) ≡ large_at 0 source (items ++ later)
-  pub told : length source ≤ 1048576 → (end : Span) (later : List Begin) → scan.told.tokens ++ told end scan.told.here (drop scan.at source) later ≡ told end start source (items ++ later)
+  pub told : (end : Span) (later : List Begin) → scan.told.tokens ++ told end scan.told.here (drop scan.at source) later ≡ told end start source (items ++ later)
   pub places : ArePlaces source scan
 
 -- The source is cut into these gaps and tokens, and this is what is kept of all of them.
@@ -116,5 +112,5 @@ pub record Read (source : Text) (scan : Scan) (stop : Begin) : Type 0 where
   pub front : IsFront source scan.at scan.bad
   pub stop_place : stop_of scan ≡ stop_at 0 0 [] items
   pub large : or_later scan.large None ≡ large_at 0 source items
-  pub told : length source ≤ 1048576 → (end : Span) → scan.told.tokens ++ token_at end scan.told.here k.End [] ∷ [] ≡ told end start source items
+  pub told : (end : Span) → scan.told.tokens ++ token_at end scan.told.here k.End [] ∷ [] ≡ told end start source items
   pub places : ArePlaces source scan

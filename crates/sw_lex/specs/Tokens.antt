@@ -1,6 +1,8 @@
 -- The tokens of a cut: their texts, their places, and what they take from what stands before them.
 use Rattle.std.specs.Prelude.{◌≡◌, ◌≢◌, ℕ, ◌+◌, ◌-◌, true, false, not, if◌then◌else◌, ◌==◌, List, [], ◌∷◌, ◌++◌, take, drop, length, slice_index}
+use Rattle.std.specs.List.{AllPairs}
 use Rattle.sw_base.specs.declared.ids.Span.{Span}
+use Rattle.sw_rules.specs.Refusal.{StandsBefore}
 use Rattle.sw_lex.specs.declared.bytes.Class.TheVariants as class
 use Rattle.sw_lex.specs.declared.token.TokenKind.{TokenKind}
 use Rattle.sw_lex.specs.declared.token.TokenKind.TheVariants as k
@@ -95,6 +97,10 @@ abbrev pub EndsOnce : List SourceToken → Type 0
 EndsOnce [] = ⊥
 EndsOnce (token ∷ []) = (token.kind ≡ k.End) × (token.text ≡ [])
 EndsOnce (token ∷ next ∷ tokens) = (token.kind ≢ k.End) × EndsOnce (next ∷ tokens)
+
+-- each token stands before those that follow it
+abbrev pub AreInOrder : List SourceToken → Type 0
+AreInOrder = AllPairs (λ token later. StandsBefore token.span later.span)
 
 -- The source is cut into these tokens up to its end.
 pub record CutsInto (source : Text) (tokens : List SourceToken) : Type 0 where

@@ -11,8 +11,7 @@ ghost use Rattle.sw_lex.specs.Finding as finding;
 
 use crate::brackets::is_inside;
 use crate::forms::Begin;
-use crate::limits::MOST_BYTES;
-use crate::places::{ORIGIN, Spot};
+use crate::places::Spot;
 use crate::scan::{Scan, first_bad};
 use sw_rules::Rule;
 
@@ -50,6 +49,7 @@ fn earlier(a: Found, b: Found) -> Found
 /// The first byte that is no part of a character. Where none is found yet, the bytes are looked at behind
 /// which nothing could be cut.
 fn bad_found(scan: &Scan, source: &[u8]) -> Found
+    requires short { length source.now ≤ 1048576 }
     requires known { ArePlaces source.now scan.now }
     requires front { IsFront source.now scan.now.at scan.now.bad }
     requires inside { scan.now.at ≤ length source.now }
@@ -97,31 +97,15 @@ fn large_found(scan: &Scan) -> Found
     }
 }
 
-fn long_found(source: &[u8]) -> Found
-    ensures value { by_offset result ≡ finding.long_found source.now }
-    ensures placed { IfSome result (λ x. IsSpot source.now x.1) }
-{
-    if MOST_BYTES < source.len() {
-        let spot = Spot {
-            at: 0,
-            place: ORIGIN,
-        };
-        Some((Rule::L5, spot))
-    } else {
-        None
-    }
-}
-
-/// The first rule that a source breaks, if any, by what was read of it.
+/// The first rule that a source breaks which is not too long, if any, by what was read of it.
 pub fn first_broken(scan: &Scan, source: &[u8], stop: Begin) -> Found
-    requires { Read source.now scan.now stop }
+    requires short { length source.now ≤ 1048576 }
+    requires read { Read source.now scan.now stop }
     ensures first { finding.IsFirst (spec.Breaks source.now) (by_offset result) }
     ensures place { IfSome result (λ x. x.1.place ≡ place_at source.now x.1.at) }
-    ensures short { result ≡ None → length source.now ≤ 1048576 }
 {
     let bad = bad_found(scan, source);
     let fault = stop_found(scan, stop);
     let large = large_found(scan);
-    let long = long_found(source);
-    earlier(earlier(earlier(bad, fault), large), long)
+    earlier(earlier(bad, fault), large)
 }

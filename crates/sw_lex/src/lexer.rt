@@ -2,10 +2,14 @@
 
 ghost use Rattle.std.specs.Prelude.{IfErr, IfOk};
 ghost use Rattle.sw_lex.specs.Tokens.{CutsInto, EndsOnce};
-ghost use Rattle.sw_lex.specs.Rules.{BreaksNone};
-ghost use Rattle.sw_lex.specs.Lexing.{IsCauseOf, IsOnlyCut};
+ghost use Rattle.sw_lex.specs.Lexing.{IsOnlyCut};
+ghost use Rattle.sw_lex.specs.Rules.{Refuses};
+ghost use Rattle.sw_rules.specs.Pass.{IsCause, RefusesNone};
 
 use crate::broken::first_broken;
+use crate::limits::MOST_BYTES;
+use crate::long::first_of_long;
+use crate::places::ORIGIN;
 use crate::scan::Scan;
 use crate::tokens::Tokens;
 use std::alloc::Global;
@@ -20,12 +24,19 @@ pub fn lex(alloc: Global, source: &[u8]) -> Result<Tokens, FrontError>
     ensures tokens { IfOk result (λ tokens. CutsInto source.now tokens) }
     ensures only { IfOk result (λ tokens. IsOnlyCut source.now tokens) }
     ensures ended { IfOk result (λ tokens. EndsOnce tokens) }
-    ensures unbroken { IfOk result (λ tokens. BreaksNone source.now) }
-    ensures refused { IfErr result (λ error. IsCauseOf source.now error) }
+    ensures unbroken { IfOk result (λ tokens. RefusesNone (Refuses source.now)) }
+    ensures refused { IfErr result (λ error. IsCause (Refuses source.now) error) }
 {
+    if MOST_BYTES < source.len() {
+        let rule = first_of_long(alloc, source)?;
+        return Err(FrontError::Refused(Refusal { rule, span: ORIGIN }));
+    }
     let (scan, stop) = Scan::read(alloc, source)?;
     match first_broken(&scan, source, stop) {
-        None => Ok(scan.told.ended(alloc, source.len())?),
+        None => {
+            let told = scan.told.ended(alloc, source.len())?;
+            Ok(Tokens::new(told))
+        }
         Some((rule, spot)) => Err(FrontError::Refused(Refusal {
             rule,
             span: spot.place,

@@ -4,7 +4,7 @@
 //! contracts cite are in `specs/`: the pieces of a string (`Strings`), comments (`Comments`), what begins at a
 //! place (`Forms`), the cut of a source (`Cut`), its tokens (`Tokens`) and its broken rules (`Rules`). They are
 //! relations, and know nothing of the code. `Kept` is how a list keeps its tokens. `Reading`, `Characters`,
-//! `Telling`, `Finding` and `Scanning` follow the code, for the contracts of private functions alone; lemmas in
+//! `Telling`, `Finding`, `Scanning` and `Long` follow the code, for the contracts of private functions alone; lemmas in
 //! `proofs/` show that both say the same.
 #![tactic(auto)]
 
@@ -12,8 +12,10 @@ mod brackets;
 mod broken;
 mod bytes;
 mod forms;
+mod kept;
 mod lexer;
 mod limits;
+mod long;
 mod places;
 mod scan;
 mod strings;
@@ -25,6 +27,3 @@ mod tokens;
 pub use lexer::lex;
 pub use token::{Token, TokenKind};
 pub use tokens::{TokenRef, Tokens};
-
-#[cfg(test)]
-mod tests;

@@ -1,21 +1,20 @@
-//! Reads a source once: cuts it into gaps and tokens, and keeps of each what is asked for later.
+//! Reads a source that is not too long once: cuts it into gaps and tokens, and keeps of each what is asked for later.
 
 ghost use Rattle.std.specs.Prelude.{◌≡◌, ◌<◌, ◌≤◌, ◌+◌, ◌-◌, ◌^◌, IfOk, IfSome, OnOk, drop, length, take};
 ghost use Rattle.std.specs.Str.{IsUtf8};
 ghost use Rattle.sw_lex.specs.Forms.{size_of};
 ghost use Rattle.sw_lex.specs.Characters.{IsFront, IsSeam};
-ghost use Rattle.sw_lex.specs.Tokens as tokens;
 ghost use Rattle.sw_lex.specs.Reading.{IsWithin};
 ghost use Rattle.sw_lex.specs.Scanning as spec;
 
 use crate::brackets::{closes, go_behind, is_inside};
 use crate::bytes::good_front;
 use crate::forms::{Begin, begins, size_of};
-use crate::limits::{MOST_BYTES, is_too_large};
+use crate::limits::is_too_large;
 use crate::places::{ORIGIN, Spot, moved};
 use crate::telling::Told;
 use std::alloc::Global;
-use sw_base::{NoMemory, Span, Stack};
+use sw_base::{NoMemory, Stack};
 
 /// What is known of a source behind the gaps and tokens that it is cut into so far.
 #[derive(Debug, Drop)]
@@ -41,23 +40,9 @@ fn outermost(opens: &Stack<bool>, outer: Spot, here: Spot) -> Spot
     if is_inside(opens) { outer } else { here }
 }
 
-/// The place behind some bytes. A source that is too long is refused at its start, so that none of its
-/// places is asked for but the first.
-fn ahead(source: &[u8], here: Span, bytes: &[u8]) -> Span
-    requires lines { length source.now ≤ 1048576 → here.line + length bytes.now < 2 ^ 32 }
-    requires columns { length source.now ≤ 1048576 → here.column + length bytes.now < 2 ^ 32 }
-    ensures short { length source.now ≤ 1048576 → result ≡ tokens.moved here bytes.now }
-    ensures long { 1048576 < length source.now → result ≡ here }
-{
-    if MOST_BYTES < source.len() {
-        here
-    } else {
-        moved(here, bytes)
-    }
-}
-
 /// The first byte that is no part of a character, if it is one of so many from here on.
 fn bad_within(source: &[u8], here: Spot, size: usize) -> Option<Spot>
+    requires short { length source.now ≤ 1048576 }
     requires within { here.at + size ≤ length source.now }
     requires seam { IsSeam (drop here.at source.now) size }
     requires fine { IsUtf8 (take here.at source.now) }
@@ -72,12 +57,13 @@ fn bad_within(source: &[u8], here: Spot, size: usize) -> Option<Spot>
     }
     Some(Spot {
         at: here.at + good,
-        place: ahead(source, here.place, &bytes[..good]),
+        place: moved(here.place, &bytes[..good]),
     })
 }
 
 /// The first byte that is no part of a character, if it is one of those before or of so many from here on.
 pub fn first_bad(bad: Option<Spot>, source: &[u8], here: Spot, size: usize) -> Option<Spot>
+    requires short { length source.now ≤ 1048576 }
     requires within { here.at + size ≤ length source.now }
     requires seam { IsSeam (drop here.at source.now) size }
     requires front { IsFront source.now here.at bad }
@@ -154,6 +140,7 @@ impl Scan {
 
     /// Goes on behind the gap or token that begins here.
     fn go_on(&mut self, alloc: Global, source: &[u8], item: Begin) -> Result<(), NoMemory>
+        requires short { length source.now ≤ 1048576 }
         requires known { spec.Known source.now self.old }
         requires next { item ≡ spec.next self.old source.now }
         requires some { 1 ≤ size_of item }
@@ -166,7 +153,7 @@ impl Scan {
         self.outer = outermost(&self.opens, self.outer, here);
         self.bad = first_bad(self.bad, source, here, size);
         self.large = first_large(self.large, &source[self.at..], item, here);
-        self.told.go_on(alloc, source, self.at, item)?;
+        self.told.go_behind(alloc, &source[self.at..], item)?;
         go_behind(&mut self.opens, item)?;
         self.at += size;
         Ok(())
@@ -174,6 +161,7 @@ impl Scan {
 
     /// All of a source's gaps and tokens, and what stands behind them.
     pub fn read(alloc: Global, source: &[u8]) -> Result<(Scan, Begin), NoMemory>
+        requires { length source.now ≤ 1048576 }
         ensures { IfOk result (λ r. spec.Read source.now r.0 r.1) }
     {
         let mut scan = Scan::new(alloc);

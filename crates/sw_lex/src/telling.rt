@@ -3,18 +3,16 @@
 ghost use Rattle.std.specs.Prelude.{◌≡◌, ◌≤◌, ◌<◌, ◌+◌, ◌^◌, ◌++◌, [], ◌∷◌, IfOk, OnOk, drop, length, take};
 ghost use Rattle.sw_lex.specs.Reading.{decoded};
 ghost use Rattle.sw_lex.specs.Forms.{size_of};
-ghost use Rattle.sw_lex.specs.Scanning.{IsNear};
 ghost use Rattle.sw_lex.specs.Tokens as spec;
 ghost use Rattle.sw_lex.specs.Telling as telling;
 ghost use Rattle.sw_lex.specs.Scanning as scanning;
 
 use crate::bytes::{Class, byte_at, is_in};
 use crate::forms::{Begin, size_of};
-use crate::limits::MOST_BYTES;
+use crate::kept::KeptTokens;
 use crate::places::{ORIGIN, behind, end_place, moved};
 use crate::strings::decoded;
 use crate::token::{Token, TokenKind};
-use crate::tokens::Tokens;
 use std::alloc::Global;
 use sw_base::{NoMemory, Span, Text};
 
@@ -31,10 +29,10 @@ pub struct Here {
     pub spaced: bool,
 }
 
-/// What is told of a source that is not too long.
+/// What is told of a source so far.
 #[derive(Debug, Drop)]
 pub struct Told {
-    pub tokens: Tokens,
+    pub tokens: KeptTokens,
     /// What the next token takes from them.
     pub here: Here,
     /// The place of the last byte so far, if there is one.
@@ -84,7 +82,7 @@ fn token_at(place: Span, here: Here, kind: TokenKind, text: Text) -> Token
 /// the place behind is known.
 fn tell(
     alloc: Global,
-    tokens: &mut Tokens,
+    tokens: &mut KeptTokens,
     here: Here,
     next: Span,
     bytes: &[u8],
@@ -123,7 +121,7 @@ impl Told {
         ensures { result ≡ scanning.nothing_told }
     {
         Told {
-            tokens: Tokens::new(alloc),
+            tokens: KeptTokens::new(alloc),
             here: Here {
                 place: ORIGIN,
                 last_line: 0,
@@ -135,7 +133,7 @@ impl Told {
     }
 
     /// Goes behind the gap or token that begins the bytes, and tells it.
-    fn go_behind(&mut self, alloc: Global, bytes: &[u8], item: Begin) -> Result<(), NoMemory>
+    pub fn go_behind(&mut self, alloc: Global, bytes: &[u8], item: Begin) -> Result<(), NoMemory>
         requires some { 1 ≤ size_of item }
         requires within { size_of item ≤ length bytes.now }
         requires lines { self.old.here.place.line + length bytes.now < 2 ^ 32 }
@@ -151,29 +149,8 @@ impl Told {
         Ok(())
     }
 
-    /// Does so where the source is not too long. The tokens of one that is are never asked for.
-    pub fn go_on(
-        &mut self,
-        alloc: Global,
-        source: &[u8],
-        at: usize,
-        item: Begin,
-    ) -> Result<(), NoMemory>
-        requires some { 1 ≤ size_of item }
-        requires within { at + size_of item ≤ length source.now }
-        requires near { IsNear at self.old.here.place }
-        ensures short { OnOk result (length source.now ≤ 1048576
-            → self.new ≡ scanning.told_behind self.old (drop at source.now) item) }
-        ensures long { OnOk result (1048576 < length source.now → self.new ≡ self.old) }
-    {
-        if MOST_BYTES < source.len() {
-            return Ok(());
-        }
-        self.go_behind(alloc, &source[at..], item)
-    }
-
     /// The tokens, and one for the end of the source, which has so many bytes.
-    pub fn ended(self, alloc: Global, size: usize) -> Result<Tokens, NoMemory>
+    pub fn ended(self, alloc: Global, size: usize) -> Result<KeptTokens, NoMemory>
         requires { 0 < size → self.last.column + 1 < 2 ^ 32 }
         ensures { IfOk result (λ tokens. tokens ≡ self.tokens
             ++ spec.token_at (scanning.end_of size self.last) self.here TokenKind.End [] ∷ []) }

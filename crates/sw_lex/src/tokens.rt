@@ -1,13 +1,12 @@
-//! A list of tokens, each kept in few bytes.
+//! The tokens of a source.
 
-ghost use Rattle.std.specs.Prelude.{◌≡◌, ◌<◌, ◌+◌, ◌^◌, [], ◌∷◌, ◌++◌, OnOk, OnSome, IfOk, IfSome, length, slice_get, option_map, Some};
-ghost use Rattle.sw_lex.specs.Kept.{IsGrown};
-ghost use Rattle.sw_lex.specs.Tokens.{token_of};
+ghost use Rattle.std.specs.Prelude.{◌≡◌, ◌<◌, ◌+◌, ◌^◌, OnSome, length, slice_get, option_map, Some};
+ghost use Rattle.sw_lex.specs.Tokens.{AreInOrder, token_of};
 
-use crate::token::{Token, TokenKind};
-use std::alloc::Global;
+use crate::kept::KeptTokens;
+use crate::token::TokenKind;
 use std::marker::Model;
-use sw_base::{NoMemory, Span, Text};
+use sw_base::{Span, Text};
 
 /// A token of a list, with its text lent: the fields are those of a `Token`.
 #[derive(Clone, Copy, Debug)]
@@ -25,57 +24,38 @@ pub struct TokenRef<'a> {
     pub after_space: bool,
 }
 
-/// A token as it is kept, with the number of its text.
-#[derive(Clone, Copy, Debug)]
-struct Entry {
-    span: Span,
-    text: u32,
-    kind: TokenKind,
-    first_on_line: bool,
-    touches: bool,
-    after_space: bool,
-}
-
-const _: () = prove!(size_of::<Entry>() == 16);
-
-/// The tokens of a source, which contracts see as the list of them.
-///
-/// A token takes 16 bytes. Its text is kept apart, and once where the last token of its kind has the
-/// same, so that each mark and each reserved word takes memory for one text.
+/// The tokens of a source, which contracts see as the list of them. Each stands before those that follow it.
 #[derive(Debug, Drop)]
 pub struct Tokens {
-    entries: Vec<Entry>,
-    texts: Pool,
+    kept: KeptTokens,
 }
 
 impl Model for Tokens {
     ghost use Rattle.std.specs.Prelude.{List};
     ghost use Rattle.sw_lex.specs.declared.token.Token.{Token};
-    ghost use Rattle.sw_lex.specs.Kept.{tokens_in, AreKept};
+    ghost use Rattle.sw_lex.specs.Tokens.{AreInOrder};
 
     ghost Value = { List Token };
 
-    ghost view = { λ tokens. tokens_in tokens.texts tokens.entries.items };
+    ghost view = { λ tokens. tokens.kept };
 
-    ghost invariant = { λ tokens. AreKept tokens.texts tokens.entries.items };
+    ghost invariant = { λ tokens. AreInOrder tokens.kept };
 }
 
 impl Tokens {
-    /// No token. It allocates nothing yet.
-    pub(crate) fn new(alloc: Global) -> Tokens
-        ensures { result ≡ [] }
+    /// These tokens, which are known to be in the order of their places.
+    pub(crate) fn new(kept: KeptTokens) -> Tokens
+        requires { AreInOrder kept }
+        ensures { result ≡ kept }
     {
-        Tokens {
-            entries: Vec::new(alloc),
-            texts: Pool::new(alloc),
-        }
+        Tokens { kept }
     }
 
     /// The number of tokens.
     pub fn len(&self) -> usize
         ensures { result ≡ length self.now }
     {
-        self.entries.len()
+        self.kept.len()
     }
 
     /// The token at an index, counted from 0; none past the end.
@@ -96,106 +76,8 @@ impl Tokens {
         requires { at < length self.now }
         ensures token { slice_get self.now at ≡ Some (token_of result) }
         ensures countable { at + 1 < 2 ^ 64 }
+        ensures ordered { AreInOrder self.now }
     {
-        let entry = &self.entries.as_slice()[at];
-        TokenRef {
-            text: self.texts.at(entry.text),
-            span: entry.span,
-            kind: entry.kind,
-            first_on_line: entry.first_on_line,
-            touches: entry.touches,
-            after_space: entry.after_space,
-        }
+        self.kept.at(at)
     }
-
-    /// Adds a token at the end. The only error is want of memory, also of numbers for texts.
-    pub(crate) fn push(&mut self, token: Token) -> Result<(), NoMemory>
-        ensures { OnOk result (self.new ≡ self.old ++ token ∷ []) }
-    {
-        let Token {
-            text,
-            span,
-            kind,
-            first_on_line,
-            touches,
-            after_space,
-        } = token;
-        let text = self.texts.number(kind, text)?;
-        self.entries.push(Entry {
-            span,
-            text,
-            kind,
-            first_on_line,
-            touches,
-            after_space,
-        })?;
-        Ok(())
-    }
-}
-
-/// How many numbers of kinds there is room for: more than there are kinds.
-const KINDS: usize = 128;
-
-/// Texts by their numbers, which contracts see as the list of them.
-#[derive(Debug, Drop)]
-struct Pool {
-    texts: Vec<Text>,
-    /// By the number of a kind, the number of the last text that was kept for a token of it.
-    latest: [u32; KINDS],
-}
-
-impl Model for Pool {
-    ghost use Rattle.std.specs.Prelude.{List};
-    ghost use Rattle.sw_lex.specs.Bytes.{Text};
-
-    ghost Value = { List Text };
-
-    ghost view = { λ pool. pool.texts.items };
-}
-
-impl Pool {
-    fn new(alloc: Global) -> Pool
-        ensures { result ≡ [] }
-    {
-        Pool {
-            texts: Vec::new(alloc),
-            latest: [0; KINDS],
-        }
-    }
-
-    /// The text of a number.
-    fn at(&self, number: u32) -> &Text
-        requires { number < length self.now }
-        ensures { slice_get self.now number ≡ Some result.now }
-    {
-        &self.texts[number as usize]
-    }
-
-    /// The number of a text of a token: that of the last one of its kind where it is the same, else
-    /// that of a new one. It keeps all that are there.
-    fn number(&mut self, kind: TokenKind, text: Text) -> Result<u32, NoMemory>
-        ensures grown { IsGrown self.old self.new }
-        ensures number { IfOk result (λ number. slice_get self.new number ≡ Some text) }
-    {
-        if let Some(number) = number_of(&self.latest, self.texts.as_slice(), kind, &text) {
-            return Ok(number);
-        }
-        let Ok(number) = u32::try_from(self.texts.len()) else {
-            return Err(NoMemory);
-        };
-        self.texts.push(text)?;
-        if let Some(latest) = self.latest.get_mut(kind as usize) {
-            *latest = number;
-        }
-        Ok(number)
-    }
-}
-
-/// The number of the text that the last token of a kind has, if it is this one.
-fn number_of(latest: &[u32], texts: &[Text], kind: TokenKind, text: &Text) -> Option<u32>
-    ensures { IfSome result (λ number. slice_get texts.now number ≡ Some text.now) }
-{
-    let number = *latest.get(kind as usize)?;
-    let kept = texts.get(number as usize)?;
-    if kept == text { Some(number) } else { None }
 }

@@ -1,6 +1,5 @@
 -- What a call of a loader or a sink leaves, and when it may fail.
-use Rattle.std.specs.Prelude.{◌≡◌, ℕ, ◌+◌, ◌-◌, ◌^◌, ◌≤◌, min, List, [], ◌∷◌, ◌++◌, take, Option, Result, Ok, Err}
-use Rattle.std.specs.Option.{option_map}
+use Rattle.std.specs.Prelude.{◌≡◌, ℕ, ◌+◌, ◌-◌, ◌^◌, ◌≤◌, min, List, [], ◌∷◌, ◌++◌, take, Result, Ok, Err}
 use Rattle.sw_outside.specs.declared.outside.LoadError.{LoadError}
 use Rattle.sw_outside.specs.declared.outside.LoadError.TheVariants.{Failed, NoMemory}
 
@@ -14,18 +13,23 @@ Asks old name new (Ok text) = new ≡ old ++ name ∷ []
 Asks old name new (Err Failed) = new ≡ old ++ name ∷ []
 Asks old name new (Err NoMemory) = new ≡ old
 
--- the count of faults does not fall, and a load fails only where it rose
-abbrev pub LoadCause : {T : Type 0} → ℕ → ℕ → Result T LoadError → Type 0
-LoadCause before now (Ok text) = before ≤ now
-LoadCause before now (Err Failed) = (before ≤ now) × Rose before now
-LoadCause before now (Err NoMemory) = before ≤ now
+-- the text of a load is added after its name to those given, and a load that fails adds none
+abbrev pub Gives : List (List ℕ × List ℕ) → List ℕ → List (List ℕ × List ℕ) → Result (List ℕ) LoadError → Type 0
+Gives old name new (Ok text) = new ≡ old ++ (name, text) ∷ []
+Gives old name new (Err error) = new ≡ old
 
--- the count of faults does not fall, and a write fails only where it rose
+-- a load fails only where the count of faults rose, and leaves the count as it was where it gives a text or wants memory
+abbrev pub LoadCause : {T : Type 0} → ℕ → ℕ → Result T LoadError → Type 0
+LoadCause before now (Ok text) = now ≡ before
+LoadCause before now (Err Failed) = (before ≤ now) × Rose before now
+LoadCause before now (Err NoMemory) = now ≡ before
+
+-- a write fails only where the count of faults rose, and leaves the count as it was where it does not fail
 abbrev pub WriteCause : {T E : Type 0} → ℕ → ℕ → Result T E → Type 0
-WriteCause before now (Ok count) = before ≤ now
+WriteCause before now (Ok count) = now ≡ before
 WriteCause before now (Err error) = (before ≤ now) × Rose before now
 
--- what a sink that tells it has taken after a write of these bytes: as many from the front as the write says
-abbrev pub after_write : {E : Type 0} → Option (List ℕ) → List ℕ → Result ℕ E → Option (List ℕ)
-after_write taken bytes (Ok count) = option_map (λ before. before ++ take count bytes) taken
+-- what a sink has taken after a write of these bytes: as many from the start as the write says
+abbrev pub after_write : {E : Type 0} → List ℕ → List ℕ → Result ℕ E → List ℕ
+after_write taken bytes (Ok count) = taken ++ take count bytes
 after_write taken bytes (Err error) = taken

@@ -6,10 +6,12 @@ use Rattle.sw_outside.specs.declared.outside.LoadError.{LoadError}
 use Rattle.sw_outside.specs.declared.outside.LoadError.TheVariants.{Failed, NoMemory}
 use Rattle.sw_outside.specs.Counts.{is_in, next_of}
 
--- the named texts, the names asked, the numbers of the calls that are to fail, and the numbers of calls and of faults so far
+-- the named texts, the names asked, the texts given, each after its name, the numbers of the calls that are to fail, and
+-- the numbers of calls and of faults so far
 pub record Loading : Type 0 where
   pub held : List (List ℕ × List ℕ)
   pub asked : List (List ℕ)
+  pub given : List (List ℕ × List ℕ)
   pub failing : List ℕ
   pub calls : ℕ
   pub faults : ℕ
@@ -24,6 +26,6 @@ given_at loader name = if is_in (next_of loader.calls) loader.failing then None 
 
 -- a load with its answer
 abbrev pub Loads : Loading → List ℕ → Loading → Result (List ℕ) LoadError → Type 0
-Loads old name new (Ok text) = (given_at old name ≡ Some text) × (new ≡ record old { asked = old.asked ++ name ∷ []; calls = next_of old.calls })
+Loads old name new (Ok text) = (given_at old name ≡ Some text) × (new ≡ record old { asked = old.asked ++ name ∷ []; given = old.given ++ (name, text) ∷ []; calls = next_of old.calls })
 Loads old name new (Err Failed) = (given_at old name ≡ None) × (new ≡ record old { asked = old.asked ++ name ∷ []; calls = next_of old.calls; faults = next_of old.faults })
 Loads old name new (Err NoMemory) = new ≡ old

@@ -5,6 +5,7 @@ ghost use Rattle.std.specs.Option.{option_copied};
 ghost use Rattle.sw_outside.specs.Loading.{held_at, Loads};
 ghost use Rattle.sw_outside.specs.Counts.{is_in};
 
+use crate::log::TextLog;
 use crate::outside::{LoadError, Loader};
 use std::alloc::Global;
 use std::marker::Model;
@@ -20,6 +21,7 @@ use sw_base::{Duplicate, Items, NoMemory, Text, Texts};
 pub struct MemLoader {
     held: Items<(Text, Text)>,
     asked: Texts,
+    given: TextLog,
     failing: Items<u64>,
     calls: u64,
     faults: u64,
@@ -33,6 +35,7 @@ impl Model for MemLoader {
     ghost view = { λ loader. record {
       held = loader.held;
       asked = loader.asked;
+      given = loader.given.entries;
       failing = loader.failing;
       calls = loader.calls;
       faults = loader.faults;
@@ -42,11 +45,12 @@ impl Model for MemLoader {
 impl MemLoader {
     /// A loader that holds no text, has asked nothing yet, and no call of which is to fail.
     pub fn new(alloc: Global) -> MemLoader
-        ensures { result ≡ record { held = []; asked = []; failing = []; calls = 0; faults = 0 } }
+        ensures { result ≡ record { held = []; asked = []; given = []; failing = []; calls = 0; faults = 0 } }
     {
         MemLoader {
             held: Items::new(alloc),
             asked: Items::new(alloc),
+            given: TextLog::new(),
             failing: Items::new(alloc),
             calls: 0,
             faults: 0,
@@ -93,6 +97,8 @@ impl Loader for MemLoader {
 
     ghost asked = { λ loader. loader.asked };
 
+    ghost given = { λ loader. loader.given };
+
     ghost faults = { λ loader. loader.faults };
 
     fn load(&mut self, name: &Text) -> Result<Text, LoadError>
@@ -104,6 +110,7 @@ impl Loader for MemLoader {
             if let Some(held) = text_at(self.held.as_slice(), name) {
                 let text = held.copy()?;
                 self.asked.push(asked)?;
+                self.given.push(name.as_bytes(), text.as_bytes());
                 self.calls = call;
                 return Ok(text);
             }

@@ -1,6 +1,6 @@
 //! A sink in memory, with a room reserved when it is made, some calls of which are to fail.
 
-ghost use Rattle.std.specs.Prelude.{◌≡◌, ◌<◌, [], ◌∷◌, ◌++◌, length, IfOk, OnOk, OnErr, Some};
+ghost use Rattle.std.specs.Prelude.{◌≡◌, ◌<◌, [], ◌∷◌, ◌++◌, length, IfOk, OnOk, OnErr};
 ghost use Rattle.sw_outside.specs.Sinking.{Writes};
 
 use crate::outside::{Failed, Sink};
@@ -76,7 +76,7 @@ impl MemSink {
 }
 
 impl Sink for MemSink {
-    ghost taken = { λ sink. Some sink.taken };
+    ghost taken = { λ sink. sink.taken };
 
     ghost faults = { λ sink. sink.faults };
 

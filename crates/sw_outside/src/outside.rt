@@ -2,7 +2,7 @@
 
 ghost use Rattle.std.specs.Prelude.{◌≡◌, ℕ, ◌<◌, ◌≤◌, List, length, Option, IfOk, IfSome};
 ghost use Rattle.sw_outside.specs.declared.outside.LoadError.TheVariants.{NoMemory};
-ghost use Rattle.sw_outside.specs.Causes.{Asks, LoadCause, WriteCause, after_write};
+ghost use Rattle.sw_outside.specs.Causes.{Asks, Gives, LoadCause, WriteCause, after_write};
 
 use std::error::Error;
 use std::fmt;
@@ -56,33 +56,37 @@ pub trait Loader {
     /// The names asked so far, the oldest first.
     ghost asked: { Self → List (List ℕ) };
 
+    /// The texts given so far, each after its name, the oldest first.
+    ghost given: { Self → List (List ℕ × List ℕ) };
+
     /// The number of faults so far, which stays at its greatest value, 2^64 - 1.
     ghost faults: { Self → ℕ };
 
-    /// The whole text of that name.
+    /// The whole text of that name, which is then listed as given.
     ///
-    /// It fails only where the count of faults rose, or stands at its greatest value. Want of
-    /// memory asks no name.
+    /// It fails only where the count of faults rose, or stands at its greatest value; otherwise the
+    /// count stays as it was. Want of memory asks no name.
     fn load(&mut self, name: &Text) -> Result<Text, LoadError>
         ensures text { IfOk result
             (λ text. IfSome (holds self.old name.now) (λ held. text ≡ held)) }
         ensures keeps { (n : List ℕ) → holds self.new n ≡ holds self.old n }
         ensures asks { Asks (asked self.old) name.now (asked self.new) result }
+        ensures gives { Gives (given self.old) name.now (given self.new) result }
         ensures cause { LoadCause (faults self.old) (faults self.new) result };
 }
 
 /// Where output goes.
 pub trait Sink {
-    /// The bytes taken so far, where the sink tells them; none where it does not tell.
-    ghost taken: { Self → Option (List ℕ) };
+    /// The bytes taken so far, the oldest first.
+    ghost taken: { Self → List ℕ };
 
     /// The number of faults so far, which stays at its greatest value, 2^64 - 1.
     ghost faults: { Self → ℕ };
 
-    /// Takes some of the bytes from the front, at least one, and answers how many.
+    /// Takes some of the bytes from the start, at least one, and answers how many.
     ///
     /// It fails only where the count of faults rose, or stands at its greatest value, and then
-    /// takes none.
+    /// takes none; otherwise the count stays as it was.
     fn write(&mut self, bytes: &[u8]) -> Result<usize, Failed>
         requires { 0 < length bytes.now }
         ensures some { IfOk result (λ count. 0 < count) }

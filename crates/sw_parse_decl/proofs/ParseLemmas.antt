@@ -2,6 +2,7 @@
 use Rattle.std.proofs.Common.{◌≡◌, ◌<◌, ◌≤◌, ◌⊎◌, inl, inr, ℕ, Bool, false, List, [], ◌∷◌, ◌++◌, drop, length, sym, ap, ◌∙◌, subst, arith, append_assoc, append-nil}
 use Rattle.sw_rules.specs.declared.FrontError.{FrontError}
 use Rattle.sw_rules.specs.declared.FrontError.TheVariants.{Refused, NoMemory}
+use Rattle.sw_rules.specs.Pass.{IsCause, RefusesNone}
 use Rattle.sw_lex.specs.declared.token.TokenKind.TheVariants as k
 use Rattle.sw_lex.specs.declared.token.Token.{Token}
 use Rattle.sw_lex.specs.Tokens.{EndsOnce}
@@ -11,9 +12,10 @@ use Rattle.sw_grammar.specs.Reading.{got, bad}
 use Rattle.sw_syntax.specs.Tokens.{sighted}
 use Rattle.sw_syntax.specs.Tests.{is}
 use Rattle.sw_syntax.specs.Symbols.{File}
-use Rattle.sw_syntax.specs.Meaning.{Spells, Begun, source_room, read_in}
+use Rattle.sw_syntax.specs.Meaning.{Spells, Begun, source_room}
+use Rattle.sw_syntax.specs.Answering.{read_in}
 use Rattle.sw_syntax.specs.Reading.{why}
-use Rattle.sw_syntax.specs.Refusals.{IsText, IsNoText, BreaksNone, IsCauseOf}
+use Rattle.sw_syntax.specs.Refusals.{IsText, IsNoText, Refuses}
 use Rattle.sw_syntax.proofs.End.{EndsFile, spelt_file, begun_file}
 use Rattle.sw_syntax.proofs.LastToken.{has_end, last_end}
 use Rattle.sw_syntax.proofs.Law.{begun_front, one_tree}
@@ -42,8 +44,8 @@ file_spelt tokens tree c end ended ends given = all_spelt tokens tree end ended 
 pub only_tree : (tokens : List Token) (tree : Tree) → Spells false File source_room (sighted tokens) tree → IsOnlyTree tokens tree
 only_tree tokens tree p = λ room other q. one_tree false File room source_room (sighted tokens) other tree q p
 
-pub file_unbroken : (tokens : List Token) (tree : Tree) → Spells false File source_room (sighted tokens) tree → BreaksNone File tokens 0
-file_unbroken tokens tree p = refused.unbroken_end File tokens 0 (sighted tokens) tree (sym (append-nil (sighted tokens))) p
+pub file_unbroken : (tokens : List Token) (tree : Tree) → Spells false File source_room (sighted tokens) tree → RefusesNone (Refuses File tokens 0)
+file_unbroken tokens tree p = λ refusal h. refused.unbroken_end File tokens 0 (sighted tokens) tree (sym (append-nil (sighted tokens))) p refusal.rule h.0 h.1
 
 -- ---- a file that is refused
 
@@ -58,8 +60,9 @@ pub refused_token : (tokens : List Token) (place : ℕ) (is_full : Bool) → End
 refused_token tokens place is_full ended given = refused_inside File tokens 0 place is_full (no_part tokens ended) given
 
 -- with the token behind the longest run that begins a file none is begun, so all of the tokens are none
-pub no_tree : (tokens : List Token) (error : FrontError) → IsCauseOf File tokens 0 error → HasNoTree tokens error
-no_tree tokens (Refused refusal) (place, ((run, next, (rest, e, begun, stops), breaks, n), least), stands) = λ tree p.
+pub no_tree : (tokens : List Token) (error : FrontError) → IsCause (Refuses File tokens 0) error → HasNoTree tokens error
+no_tree tokens (Refused refusal) first = λ tree p.
+    let (place, (run, next, (rest, e, begun, stops), breaks, n), stands) = first.refused in
     let all : Begun false File source_room (sighted tokens) = refused.spelt_begun File (sighted tokens) tree p in
     stops (begun_front false File source_room (run ++ next ∷ []) rest (subst (Begun false File source_room) (e ∙ sym (append_assoc run (next ∷ []) rest)) all))
 no_tree tokens NoMemory h = tt

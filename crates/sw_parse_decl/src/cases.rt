@@ -2,7 +2,7 @@
 
 ghost use Rattle.std.specs.Prelude.{◌≡◌, ◌≤◌, [], drop, length, IfOk, Some};
 ghost use Rattle.sw_syntax.specs.Lists.{items_from};
-ghost use Rattle.sw_syntax.specs.Meaning.{read};
+ghost use Rattle.sw_syntax.specs.Answering.{read};
 ghost use Rattle.sw_syntax.specs.Members.{case_list, payload_list, payload_part};
 ghost use Rattle.sw_syntax.specs.Reading.{Gives, Inside, Moves, Stays};
 ghost use Rattle.sw_syntax.specs.Sights.{lent_face};

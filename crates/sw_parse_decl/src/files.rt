@@ -1,7 +1,7 @@
 //! Whole files.
 
 ghost use Rattle.std.specs.Prelude.{◌≤◌, drop, length};
-ghost use Rattle.sw_syntax.specs.Meaning.{read};
+ghost use Rattle.sw_syntax.specs.Answering.{read};
 ghost use Rattle.sw_syntax.specs.Reading.{Gives, Inside, Moves};
 ghost use Rattle.sw_syntax.specs.Symbols as symbol;
 

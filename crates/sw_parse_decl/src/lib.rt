@@ -22,6 +22,3 @@ mod signatures;
 
 pub use files::file;
 pub use parsing::parse;
-
-#[cfg(test)]
-mod tests;

@@ -2,7 +2,7 @@
 
 ghost use Rattle.std.specs.Prelude.{◌≡◌, ◌≤◌, drop, false, length};
 ghost use Rattle.sw_grammar.specs.Reading.{at_first};
-ghost use Rattle.sw_syntax.specs.Meaning.{read};
+ghost use Rattle.sw_syntax.specs.Answering.{read};
 ghost use Rattle.sw_syntax.specs.Members.{param_list, param_names, params_part};
 ghost use Rattle.sw_syntax.specs.Reading.{Gives, Inside, Moves, Stays};
 ghost use Rattle.sw_syntax.specs.Symbols as symbol;

@@ -1,20 +1,20 @@
 //! The tree of a whole source.
 
 ghost use Rattle.std.specs.Prelude.{false, IfOk, IfErr};
+ghost use Rattle.sw_rules.specs.Pass.{IsCause, RefusesNone};
 ghost use Rattle.sw_lex.specs.Tokens.{EndsOnce};
 ghost use Rattle.sw_parse_decl.specs.Parsed.{IsOnlyTree, HasNoTree};
 ghost use Rattle.sw_syntax.specs.Meaning.{Spells, source_room};
 ghost use Rattle.sw_syntax.specs.Reading.{IntegersFit};
-ghost use Rattle.sw_syntax.specs.Refusals.{BreaksNone, IsCauseOf};
+ghost use Rattle.sw_syntax.specs.Refusals.{Refuses};
 ghost use Rattle.sw_syntax.specs.Symbols as symbol;
 ghost use Rattle.sw_syntax.specs.Tokens.{sighted};
 
 use crate::files::file;
 use std::alloc::Global;
 use sw_lex::Tokens;
-use sw_refusal::{ROOM, Reader, refusal, refused_at};
 use sw_rules::FrontError;
-use sw_syntax::{Source, Stop};
+use sw_syntax::{ROOM, Reader, Source, Stop, refused_at};
 use sw_tree::Tree;
 
 /// Reads files.
@@ -40,8 +40,8 @@ pub fn parse(alloc: Global, tokens: &Tokens) -> Result<Tree, FrontError>
     requires fits { IntegersFit (sighted tokens.now) }
     ensures spelt { IfOk result (λ tree. Spells false symbol.File source_room (sighted tokens.now) tree) }
     ensures only { IfOk result (λ tree. IsOnlyTree tokens.now tree) }
-    ensures unbroken { IfOk result (λ tree. BreaksNone symbol.File tokens.now 0) }
-    ensures refused { IfErr result (λ error. IsCauseOf symbol.File tokens.now 0 error) }
+    ensures unbroken { IfOk result (λ tree. RefusesNone (Refuses symbol.File tokens.now 0)) }
+    ensures refused { IfErr result (λ error. IsCause (Refuses symbol.File tokens.now 0) error) }
     ensures no_tree { IfErr result (λ error. HasNoTree tokens.now error) }
 {
     let source = Source::new(tokens);
@@ -49,8 +49,7 @@ pub fn parse(alloc: Global, tokens: &Tokens) -> Result<Tree, FrontError>
         // The end of the source closes a file, so nothing stands behind it.
         Ok((tree, _, _)) => Ok(tree),
         Err(Stop::Refused(place, is_full)) => {
-            let (rule, place) = refused_at::<Files>(alloc, tokens, 0, place, is_full)?;
-            Err(refusal(tokens, rule, place))
+            Err(refused_at::<Files>(alloc, tokens, 0, place, is_full))
         }
         Err(Stop::NoMemory) => Err(FrontError::NoMemory),
     }

@@ -3,7 +3,7 @@
 ghost use Rattle.std.specs.Prelude.{◌≡◌, ◌<◌, ◌≤◌, drop, false, length, true};
 ghost use Rattle.sw_grammar.specs.Reading.{at_first};
 ghost use Rattle.sw_lex.specs.declared.token.TokenKind.TheVariants as k;
-ghost use Rattle.sw_syntax.specs.Bodies.{annotation_part, initial_part};
+ghost use Rattle.sw_syntax.specs.Bodies.{annotation_part};
 ghost use Rattle.sw_syntax.specs.Forms.{computed_var, stored_var};
 ghost use Rattle.sw_syntax.specs.Members.{accessor_part, getter_part, member_from, typed_from, var_from};
 ghost use Rattle.sw_syntax.specs.Reading.{Gives, Inside, Moves, Stays};
@@ -13,7 +13,7 @@ use crate::nodes;
 use sqlite_items::Items;
 use std::alloc::Global;
 use sw_lex::TokenKind;
-use sw_parse_expr::{expr, type_};
+use sw_parse_expr::{expr, initial_value, type_};
 use sw_parse_stmt::{block, statements};
 use sw_syntax::{Opening, Room, Source, Stop, Test, stands};
 use sw_tree::{
@@ -48,31 +48,6 @@ fn annotation(
     Ok((Some(x), end, room.left))
 }
 
-/// The expression behind `=`, if it stands there.
-fn initial(
-    alloc: Global,
-    source: &Source,
-    lenient: bool,
-    at: usize,
-    room: Room,
-) -> Reading<Option<Expr>>
-    requires { at ≤ length source.now }
-    ensures gives { Gives source.now result (initial_part lenient room.brackets room.limit room.left (drop at source.now)) }
-    ensures stays { Stays at result }
-    ensures inside { Inside (length source.now) result }
-{
-    if !source.is(at, Test::Is(TokenKind::Assign)) {
-        return Ok((None, at, room.left));
-    }
-    let (_, next) = source.take(at);
-    let whole = Room {
-        left: room.limit,
-        ..room
-    };
-    let (x, end, _) = expr(alloc, source, lenient, next, whole)?;
-    Ok((Some(x), end, room.left))
-}
-
 /// A property with `let`, behind its modifiers.
 pub fn let_property(
     alloc: Global,
@@ -90,7 +65,13 @@ pub fn let_property(
     let (_, next) = source.take(at);
     let (token, name_end) = source.expect(next, Test::Name)?;
     let (declared, type_end, left) = annotation(alloc, source, lenient, name_end, room)?;
-    let (initial, end, left) = initial(alloc, source, lenient, type_end, Room { left, ..room })?;
+    let (initial, end, left) = initial_value(
+        alloc,
+        source,
+        lenient,
+        type_end,
+        Room { left, ..room },
+    )?;
     let name = nodes::name(token)?;
     let property = StoredProperty {
         modifiers,

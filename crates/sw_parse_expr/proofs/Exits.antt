@@ -4,10 +4,10 @@ use Rattle.sw_base.specs.declared.ids.Span.{Span}
 use Rattle.sw_lex.specs.Bytes.{Text}
 use Rattle.sw_lex.specs.declared.token.TokenKind.TheVariants as k
 use Rattle.sw_grammar.specs.Reading.{Out, got, bad, stuck, ◌>>=◌, at_first, one}
-use Rattle.sw_syntax.specs.Meaning.{read}
+use Rattle.sw_syntax.specs.Answering.{read}
 use Rattle.sw_syntax.specs.Symbols.{Base}
 use Rattle.sw_syntax.specs.Tests.{is, is_name}
-use Rattle.sw_syntax.specs.Tokens.{Sighted, face_of}
+use Rattle.sw_syntax.specs.Tokens.{Sighted}
 use Rattle.sw_syntax.proofs.Steps.{one_none}
 use Rattle.sw_syntax.proofs.TypeSteps.{base_none_deep, base_void}
 use Rattle.sw_tree.specs.declared.expr.Name.{Name}
@@ -31,7 +31,7 @@ string_node at text done pieces x last p left r all piece =
 pub base_none : (lenient : Bool) (d l c : ℕ) (ts : List Sighted) → at_first is_name ts ≡ false → at_first (is k.LeftBracket) ts ≡ false → at_first (is k.Any) ts ≡ false → at_first (is k.LeftParen) ts ≡ false → read lenient Base d l c ts ≡ bad stuck ts
 base_none lenient zero l c ts h0 h1 h2 h = base_none_deep lenient 0 l c ts h0 h1 h2 h refl
 base_none lenient (suc d) l c ts h0 h1 h2 h = base_void lenient (suc d) l c ts h0 h1 h2 (λ e. absurd (omega (arith, e)))
-    ∙ ap (λ o. o >>= (λ f c1 r1. one face_of (is k.RightParen) c1 r1 >>= (λ _ c2 r2. got (tree.Void f.span) c2 r2))) (one_none (is k.LeftParen) c ts h)
+    ∙ ap (λ o. o >>= (λ f c1 r1. one (is k.RightParen) c1 r1 >>= (λ _ c2 r2. got (tree.Void f.span) c2 r2))) (one_none (is k.LeftParen) c ts h)
 
 -- a type in a type, by its names
 pub two_names : (a a' b b' : Name) (c : ℕ) (r : List Sighted) → a' ≡ a → b' ≡ b → ◌≡◌ {A = Out Sighted TypeTree} (got (tree.Member a b) c r) (got (tree.Member a' b') c r)

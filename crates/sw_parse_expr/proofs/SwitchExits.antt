@@ -6,7 +6,7 @@ use Rattle.sw_lex.specs.Bytes.{Text}
 use Rattle.sw_grammar.specs.Reading.{Out, got, ◌>>=◌, one}
 use Rattle.sw_syntax.specs.Patterns.{binds_part, case_part}
 use Rattle.sw_syntax.specs.Tests.{is, is_name}
-use Rattle.sw_syntax.specs.Tokens.{Sighted, face_of}
+use Rattle.sw_syntax.specs.Tokens.{Sighted}
 use Rattle.sw_syntax.specs.Values.{name_of}
 use Rattle.sw_tree.specs.declared.expr.Expr.{Expr}
 use Rattle.sw_tree.specs.declared.expr.Literal.{Literal}
@@ -29,6 +29,6 @@ pub some_name : (x y : Name) (c : ℕ) (r : List Sighted) → y ≡ x → ◌≡
 some_name x y c r e = ap (λ n. got (Some n) c r) (sym e)
 
 pub case_step : (lenient : Bool) (d l c : ℕ) (outer : Option Name) (ts : List Sighted)
-    → case_part lenient d l c outer ts ≡ (one face_of (is k.Dot) c ts >>= (λ f c1 r1. one face_of is_name c1 r1 >>= (λ n c2 r2. binds_part lenient d l c2 r2 >>= (λ xs c3 r3. got (p.Case outer f.span (name_of n) xs) c3 r3))))
+    → case_part lenient d l c outer ts ≡ (one (is k.Dot) c ts >>= (λ f c1 r1. one is_name c1 r1 >>= (λ n c2 r2. binds_part lenient d l c2 r2 >>= (λ xs c3 r3. got (p.Case outer f.span (name_of n) xs) c3 r3))))
 unfolding case_part
 case_step lenient d l c outer ts = refl

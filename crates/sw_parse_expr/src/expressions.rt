@@ -5,7 +5,7 @@ ghost use Rattle.sw_grammar.specs.Reading.{at_first, got};
 ghost use Rattle.sw_lex.specs.declared.token.TokenKind.TheVariants as k;
 ghost use Rattle.sw_syntax.specs.Chains.{IsLater, arg_list, await_part, element_list, forms, takes_one, try_part};
 ghost use Rattle.sw_syntax.specs.Grammar.{right};
-ghost use Rattle.sw_syntax.specs.Meaning.{read, read_part};
+ghost use Rattle.sw_syntax.specs.Answering.{read, read_part};
 ghost use Rattle.sw_syntax.specs.Reading.{Gives, GoesOn, Inside, Moves, Stays};
 ghost use Rattle.sw_syntax.specs.Symbols as symbol;
 ghost use Rattle.sw_syntax.specs.Tables.{is_form};

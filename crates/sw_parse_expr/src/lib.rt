@@ -21,6 +21,3 @@ pub use parse::parse_expr;
 pub use patterns::catch_pattern;
 pub use switch_patterns::pattern;
 pub use types::type_;
-
-#[cfg(test)]
-mod tests;

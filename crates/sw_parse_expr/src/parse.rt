@@ -1,18 +1,18 @@
 //! The expression that the tokens of a source begin with at a place.
 
 ghost use Rattle.std.specs.Prelude.{◌<◌, length, IfOk, IfErr};
+ghost use Rattle.sw_rules.specs.Pass.{IsCause, RefusesNone};
 ghost use Rattle.sw_lex.specs.Tokens.{EndsOnce};
 ghost use Rattle.sw_syntax.specs.Reading.{IntegersFit};
-ghost use Rattle.sw_syntax.specs.Refusals.{IsText, BreaksNone, IsCauseOf};
+ghost use Rattle.sw_syntax.specs.Refusals.{IsText, Refuses};
 ghost use Rattle.sw_syntax.specs.Symbols as symbol;
 ghost use Rattle.sw_syntax.specs.Tokens.{sighted};
 
 use crate::expressions::expr;
 use std::alloc::Global;
 use sw_lex::Tokens;
-use sw_refusal::{ROOM, Reader, broken_behind, refusal, refused_at};
 use sw_rules::FrontError;
-use sw_syntax::{Source, Stop};
+use sw_syntax::{ROOM, Reader, Source, Stop, refused_at, unbroken_behind};
 use sw_tree::Expr;
 
 /// Reads expressions.
@@ -39,18 +39,17 @@ pub fn parse_expr(alloc: Global, tokens: &Tokens, at: usize) -> Result<(Expr, us
     requires ended { EndsOnce tokens.now }
     requires fits { IntegersFit (sighted tokens.now) }
     ensures text { IfOk result (λ found. IsText symbol.Expr tokens.now at found.0 found.1) }
-    ensures unbroken { IfOk result (λ found. BreaksNone symbol.Expr tokens.now at) }
-    ensures refused { IfErr result (λ error. IsCauseOf symbol.Expr tokens.now at error) }
+    ensures unbroken { IfOk result (λ found. RefusesNone (Refuses symbol.Expr tokens.now at)) }
+    ensures refused { IfErr result (λ error. IsCause (Refuses symbol.Expr tokens.now at) error) }
 {
     let source = Source::new(tokens);
     match expr(alloc, &source, false, at, ROOM) {
-        Ok((tree, end, _)) => match broken_behind::<Expressions>(alloc, tokens, at, end)? {
-            Some((rule, place)) => Err(refusal(tokens, rule, place)),
-            None => Ok((tree, end)),
-        },
+        Ok((tree, end, _)) => {
+            unbroken_behind::<Expressions>(alloc, tokens, at, end)?;
+            Ok((tree, end))
+        }
         Err(Stop::Refused(end, is_full)) => {
-            let (rule, place) = refused_at::<Expressions>(alloc, tokens, at, end, is_full)?;
-            Err(refusal(tokens, rule, place))
+            Err(refused_at::<Expressions>(alloc, tokens, at, end, is_full))
         }
         Err(Stop::NoMemory) => Err(FrontError::NoMemory),
     }

@@ -3,7 +3,7 @@
 ghost use Rattle.std.specs.Prelude.{◌≡◌, false, ◌<◌, ◌≤◌, drop, length};
 ghost use Rattle.sw_grammar.specs.Reading.{at_first};
 ghost use Rattle.sw_lex.specs.declared.token.TokenKind.TheVariants as k;
-ghost use Rattle.sw_syntax.specs.Meaning.{read};
+ghost use Rattle.sw_syntax.specs.Answering.{read};
 ghost use Rattle.sw_syntax.specs.Patterns.{type_part};
 ghost use Rattle.sw_syntax.specs.Reading.{Gives, Inside, Moves, Stays};
 ghost use Rattle.sw_syntax.specs.Symbols as symbol;

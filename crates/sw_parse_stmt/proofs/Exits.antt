@@ -5,6 +5,7 @@ use Rattle.sw_grammar.specs.Reading.{Out, got, ◌>>=◌, at_first}
 use Rattle.sw_tree.specs.declared.expr.Name.{Name}
 use Rattle.sw_tree.specs.declared.stmt.ArmLabel.{ArmLabel}
 use Rattle.sw_tree.specs.declared.stmt.RangeEnd.{RangeEnd}
+use Rattle.sw_base.specs.declared.ids.Span.{Span}
 use Rattle.sw_tree.specs.declared.stmt.RangeOperator.{RangeOperator}
 use Rattle.sw_tree.specs.declared.stmt.Stmt.{Stmt}
 use Rattle.sw_tree.specs.declared.stmt.SwitchArm.{SwitchArm}
@@ -40,9 +41,9 @@ going_passes going ts NoMemory out o k e h = tt
 pub some_name : (x y : Name) (c : ℕ) (r : List Sighted) → y ≡ x → ◌≡◌ {A = Out Sighted (Option Name)} (got (Some x) c r) (got (Some y) c r)
 some_name x y c r e = ap (λ n. got (Some n) c r) (sym e)
 
-pub range_end : (o o' : RangeOperator) (x : Expr) (c : ℕ) (r : List Sighted) → o' ≡ o
-    → ◌≡◌ {A = Out Sighted (Option RangeEnd)} (got (Some (record { operator = o; value = x })) c r) (got (Some (record { operator = o'; value = x })) c r)
-range_end o o' x c r e = ap (λ o. got (Some (record { operator = o; value = x })) c r) (sym e)
+pub range_end : (at : Span) (o o' : RangeOperator) (x : Expr) (c : ℕ) (r : List Sighted) → o' ≡ o
+    → ◌≡◌ {A = Out Sighted (Option RangeEnd)} (got (Some (record { span = at; operator = o; value = x })) c r) (got (Some (record { span = at; operator = o'; value = x })) c r)
+range_end at o o' x c r e = ap (λ o. got (Some (record { span = at; operator = o; value = x })) c r) (sym e)
 
 -- ---- bodies
 
@@ -77,7 +78,7 @@ none_of class h = absurd cc
 -- an `else` before `if` is none before anything else
 pub no_else : (ts : List Sighted) → at_first is_else_if ts ≡ true → at_first is_else ts ≡ false
 no_else [] h = refl
-no_else (t ∷ ts) h = none_of t.class h
+no_else (t ∷ ts) h = none_of t.sight.class h
 
 -- ---- arms
 

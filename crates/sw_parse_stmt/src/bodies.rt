@@ -4,7 +4,7 @@ ghost use Rattle.std.specs.Prelude.{◌≡◌, ◌<◌, ◌≤◌, List, [], dro
 ghost use Rattle.sw_grammar.specs.Reading.{at_first};
 ghost use Rattle.sw_parse_stmt.specs.Statements.{ended, statement_list, stepped};
 ghost use Rattle.sw_syntax.specs.Bodies.{body_from};
-ghost use Rattle.sw_syntax.specs.Meaning.{read};
+ghost use Rattle.sw_syntax.specs.Answering.{read};
 ghost use Rattle.sw_syntax.specs.Reading.{Gives, GoesOn, Inside, Moves, Stays};
 ghost use Rattle.sw_syntax.specs.Symbols.{Place};
 ghost use Rattle.sw_syntax.specs.Symbols as symbol;

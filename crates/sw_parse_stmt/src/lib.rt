@@ -20,6 +20,3 @@ use sw_syntax::Stop;
 
 /// What was read, the place after it, and how many more parts may be counted.
 type Reading<T> = Result<(T, usize, u8), Stop>;
-
-#[cfg(test)]
-mod tests;

@@ -102,7 +102,12 @@ pub fn range_end(
     };
     let (value, end, _) = expr(alloc, source, lenient, next, own)?;
     let operator = nodes::range_operator(mark.kind);
-    Ok((Some(RangeEnd { operator, value }), end, room.left))
+    let end_of_range = RangeEnd {
+        span: mark.span,
+        operator,
+        value,
+    };
+    Ok((Some(end_of_range), end, room.left))
 }
 
 /// The pattern of a `catch`, if one stands at this place.

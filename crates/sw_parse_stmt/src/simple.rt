@@ -4,7 +4,7 @@ ghost use Rattle.std.specs.Prelude.{◌≡◌, false, ◌<◌, ◌≤◌, drop, 
 ghost use Rattle.sw_grammar.specs.Reading.{at_first};
 ghost use Rattle.sw_lex.specs.declared.token.TokenKind.TheVariants as k;
 ghost use Rattle.sw_syntax.specs.Bodies.{IsJump, assigned_part};
-ghost use Rattle.sw_syntax.specs.Meaning.{read};
+ghost use Rattle.sw_syntax.specs.Answering.{read};
 ghost use Rattle.sw_syntax.specs.Reading.{Gives, Inside, Moves, Stays};
 ghost use Rattle.sw_syntax.specs.Symbols as symbol;
 ghost use Rattle.sw_syntax.specs.Tests.{is, is_let_or_var, starts_expr};

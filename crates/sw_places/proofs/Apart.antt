@@ -1,9 +1,9 @@
 -- Tokens that are alike but for their places spell trees that are alike but for their places.
 use Rattle.std.proofs.Common.{◌≡◌, zero, suc, false, List, map, ap}
 use Rattle.sw_grammar.specs.Grammar.{Room}
-use Rattle.sw_grammar.specs.Stripping.{Blind}
 use Rattle.sw_grammar.proofs.Near.{Steady, spelt_near}
-use Rattle.sw_syntax.specs.Tokens.{Sighted, Face, face_of}
+use Rattle.sw_syntax.specs.declared.class.Sight.{Sight}
+use Rattle.sw_syntax.specs.Tokens.{Sighted, Face}
 use Rattle.sw_syntax.specs.Meaning.{Spells}
 use Rattle.sw_syntax.specs.Symbols.{Decls, Members, Items, Requirements, InBlock, InArm, Open, Closed, Symbol, File, Some', Rest, Item, Param, Case, Payload, Type', Base, Block, Sbody, Stmts, AfterStmt, AfterReturn, Stmt', If, Arms, Cond, Pat, Cpat, Expr, Tern, Bin, Prefix, Post, Form, Arg, Prim, Elements, Sort}
 use Rattle.sw_syntax.specs.Grammar.{rule}
@@ -15,8 +15,8 @@ use Rattle.sw_places.proofs.NearPattern as patterns
 use Rattle.sw_places.proofs.NearStmt as statements
 use Rattle.sw_places.proofs.NearDecl as declarations
 
-faces_near : (t u : Sighted) → unplaced t ≡ unplaced u → NearFace (face_of t) (face_of u)
-faces_near t u h = (ap (λ (t : Sighted). t.face.kind) h, ap (λ (t : Sighted). t.face.text) h)
+tokens_near : (t u : Sighted) → unplaced t ≡ unplaced u → (t.sight ≡ u.sight) × NearFace t.face u.face
+tokens_near t u h = (ap (λ (t : Sighted). t.sight) h, (ap (λ (t : Sighted). t.face.kind) h, ap (λ (t : Sighted). t.face.text) h))
 
 near_rule : (s : Symbol) (x y : Sort s) → Near (rule false s) x y → Alike s x y
 near_rule File = declarations.near_file
@@ -50,55 +50,8 @@ near_rule Arg = expressions.near_arg
 near_rule Prim = expressions.near_prim
 near_rule Elements = expressions.near_elements
 
--- no test looks at a place
-blind : (s : Symbol) → Blind Sighted Face Symbol Sort unplaced (rule false s)
-blind File = search parts 64
-blind (Some' l) = search parts 64
-blind (Rest l) = search parts 64
-blind (Item Decls) = search parts 64
-blind (Item Members) = search parts 64
-blind (Item Items) = search parts 64
-blind (Item Requirements) = search parts 64
-blind Param = search parts 64
-blind Case = search parts 64
-blind Payload = search parts 64
-blind Type' = search parts 64
-blind Base = search parts 64
-blind Block = search parts 64
-blind (Sbody InBlock) = search parts 64
-blind (Sbody InArm) = search parts 64
-blind (Stmts at) = search parts 64
-blind (AfterStmt InBlock Open) = search parts 64
-blind (AfterStmt InBlock Closed) = search parts 64
-blind (AfterStmt InArm Open) = search parts 64
-blind (AfterStmt InArm Closed) = search parts 64
-blind (AfterReturn InBlock) = search parts 64
-blind (AfterReturn InArm) = search parts 64
-blind (Stmt' Open) = search parts 64
-blind (Stmt' Closed) = search parts 64
-blind If = search parts 64
-blind Arms = search parts 64
-blind Cond = search parts 64
-blind Pat = search parts 64
-blind Cpat = search parts 64
-blind Expr = search parts 64
-blind Tern = search parts 64
-blind (Bin zero) = search parts 64
-blind (Bin (suc zero)) = search parts 64
-blind (Bin (suc (suc zero))) = search parts 64
-blind (Bin (suc (suc (suc zero)))) = search parts 64
-blind (Bin (suc (suc (suc (suc zero))))) = search parts 64
-blind (Bin (suc (suc (suc (suc (suc zero)))))) = search parts 64
-blind (Bin (suc (suc (suc (suc (suc (suc n))))))) = search parts 64
-blind Prefix = search parts 64
-blind Post = search parts 64
-blind Form = search parts 64
-blind Arg = search parts 64
-blind Prim = search parts 64
-blind Elements = search parts 64
-
 -- what ends in a name, a member or an index is told without its places
-steady : (s : Symbol) → Steady Sighted Face Symbol Sort face_of (rule false) unplaced NearFace Alike (rule false s)
+steady : (s : Symbol) → Steady Sight Face Symbol Sort (rule false) unplaced NearFace Alike (rule false s)
 steady File = search parts 64
 steady (Some' l) = search parts 64
 steady (Rest l) = search parts 64
@@ -146,4 +99,4 @@ steady Elements = search parts 64
 
 pub apart : (s : Symbol) (room : Room) (run other : List Sighted) (x : Sort s) → map unplaced run ≡ map unplaced other → Spells false s room run x → (y : Sort s) × Spells false s room other y × Alike s x y
 apart s room run other x h p =
-    let (y, like, q) = spelt_near Sighted Face Symbol Sort face_of (rule false) unplaced NearFace Alike faces_near blind steady near_rule s room run other x h p in (y, q, like)
+    let (y, like, q) = spelt_near Sight Face Symbol Sort (rule false) unplaced NearFace Alike tokens_near steady near_rule s room run other x h p in (y, q, like)

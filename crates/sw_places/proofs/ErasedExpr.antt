@@ -12,7 +12,7 @@ use Rattle.sw_tree.specs.declared.expr.TryForm.{TryForm}
 use Rattle.sw_tree.specs.declared.expr.BinaryOperator.{BinaryOperator}
 use Rattle.sw_tree.specs.declared.expr.PrefixOperator.{PrefixOperator}
 use Rattle.sw_tree.specs.declared.expr.Expr.{Expr, out-Expr, fold-roll-Expr}
-use Rattle.sw_tree.specs.declared.expr.Expr.TheViews.{roll-Expr, roll-Literal, out-roll-Expr, roll-out-Expr}
+use Rattle.sw_tree.specs.declared.expr.Expr.TheViews.{roll-Expr, out-roll-Expr, roll-out-Expr}
 use Rattle.sw_tree.specs.declared.expr.Expr.TheOpen.{Expr-F, Literal-F}
 use Rattle.sw_tree.specs.declared.expr.Expr.TheVariants as e
 use Rattle.sw_places.specs.Places.{erase_argument}
@@ -75,40 +75,22 @@ erased-Call x at xs =
 
 -- ---- literals
 
--- the literal of a layer, as the erasure of a literal by itself has it
-abbrev literal_in : Literal → Expr-F Expr Literal Argument StringPiece → Literal
-literal_in value (Expr-F.Literal at erased) = erased
-literal_in value layer = value
-
-found : (x y : Literal) (z : Expr) → z ≡ e.Literal nowhere y → literal_in x (out-Expr z) ≡ y
-found x y z p = ap (λ z. literal_in x (out-Expr z)) (p ∙ sym (e.rolls-Literal nowhere y)) ∙ ap (literal_in x) (out-roll-Expr (Expr-F.Literal nowhere y))
-
 pub erased-Literal : (at : Span) (x : Literal) → erase_expr (e.Literal at x) ≡ e.Literal nowhere (erase_literal x)
-erased-Literal at x =
-    ap erase_expr (sym (e.rolls-Literal at x)) ∙ (fold-roll-Expr _ _ _ _ _ _ _ _ (Expr-F.Literal at x)
-    ∙ ap (e.Literal nowhere) (sym (found x _ (erase_expr (e.Literal nowhere x)) (ap erase_expr (sym (e.rolls-Literal nowhere x)) ∙ fold-roll-Expr _ _ _ _ _ _ _ _ (Expr-F.Literal nowhere x)))))
+erased-Literal at x = ap erase_expr (sym (e.rolls-Literal at x)) ∙ fold-roll-Expr _ _ _ _ _ _ _ _ (Expr-F.Literal at x)
 
 abbrev pub erase_piece : StringPiece → StringPiece
 erase_piece x = record { value = erase_expr x.value; text = x.text }
 
 pub erased-Integer : (n : ℤ) → erase_literal (literal.Integer n) ≡ literal.Integer n
-erased-Integer n =
-    ap erase_literal (sym (literal.rolls-Integer n))
-    ∙ (found (roll-Literal (Literal-F.Integer n)) _ (erase_expr (e.Literal nowhere (roll-Literal (Literal-F.Integer n)))) (ap erase_expr (sym (e.rolls-Literal nowhere (roll-Literal (Literal-F.Integer n)))) ∙ fold-roll-Expr _ _ _ _ _ _ _ _ (Expr-F.Literal nowhere (roll-Literal (Literal-F.Integer n))))
-    ∙ fold-roll-Literal _ _ _ _ _ _ _ _ (Literal-F.Integer n))
+erased-Integer n = ap erase_literal (sym (literal.rolls-Integer n)) ∙ fold-roll-Literal _ _ _ _ _ _ _ _ (Literal-F.Integer n)
 
 pub erased-Bool : (value : Bool) → erase_literal (literal.Bool value) ≡ literal.Bool value
-erased-Bool value =
-    ap erase_literal (sym (literal.rolls-Bool value))
-    ∙ (found (roll-Literal (Literal-F.Bool value)) _ (erase_expr (e.Literal nowhere (roll-Literal (Literal-F.Bool value)))) (ap erase_expr (sym (e.rolls-Literal nowhere (roll-Literal (Literal-F.Bool value)))) ∙ fold-roll-Expr _ _ _ _ _ _ _ _ (Expr-F.Literal nowhere (roll-Literal (Literal-F.Bool value))))
-    ∙ fold-roll-Literal _ _ _ _ _ _ _ _ (Literal-F.Bool value))
+erased-Bool value = ap erase_literal (sym (literal.rolls-Bool value)) ∙ fold-roll-Literal _ _ _ _ _ _ _ _ (Literal-F.Bool value)
 
 pub erased-String : (text : Text) (pieces : List StringPiece) → erase_literal (literal.String text pieces) ≡ literal.String text (map erase_piece pieces)
 erased-String text pieces =
-    ap erase_literal (sym (literal.rolls-String text pieces))
-    ∙ (found (roll-Literal (Literal-F.String text pieces)) _ (erase_expr (e.Literal nowhere (roll-Literal (Literal-F.String text pieces)))) (ap erase_expr (sym (e.rolls-Literal nowhere (roll-Literal (Literal-F.String text pieces)))) ∙ fold-roll-Expr _ _ _ _ _ _ _ _ (Expr-F.Literal nowhere (roll-Literal (Literal-F.String text pieces))))
-    ∙ (fold-roll-Literal _ _ _ _ _ _ _ _ (Literal-F.String text pieces)
-    ∙ ap (λ ys. literal.String text ys) (map_same _ erase_piece (λ x. fold-roll-StringPiece _ _ _ _ _ _ _ _ (record { value = x.value; text = x.text })) pieces)))
+    ap erase_literal (sym (literal.rolls-String text pieces)) ∙ fold-roll-Literal _ _ _ _ _ _ _ _ (Literal-F.String text pieces)
+    ∙ ap (λ ys. literal.String text ys) (map_same _ erase_piece (λ x. fold-roll-StringPiece _ _ _ _ _ _ _ _ (record { value = x.value; text = x.text })) pieces)
 
 -- ---- what ends in a name, a member or an index
 

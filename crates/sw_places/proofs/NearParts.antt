@@ -4,7 +4,8 @@ use Rattle.sw_lex.specs.declared.token.TokenKind.TheVariants as k
 use Rattle.sw_grammar.specs.Grammar.{maybe, many, gives}
 use Rattle.sw_grammar.proofs.Near.{Like, LikeOption}
 use Rattle.sw_tree.specs.Erased.{option_map, erase_name}
-use Rattle.sw_syntax.specs.Tokens.{Sighted, Face, face_of}
+use Rattle.sw_syntax.specs.declared.class.Sight.{Sight}
+use Rattle.sw_syntax.specs.Tokens.{Face}
 use Rattle.sw_syntax.specs.Values.{is_some, or_none}
 use Rattle.sw_syntax.specs.Symbols.{Symbol, Sort}
 use Rattle.sw_syntax.specs.Parts.{P, tok, name, present, behind, some, any, in_parens, in_braces}
@@ -16,7 +17,7 @@ NearFace f g = (f.kind ≡ g.kind) × (f.text ≡ g.text)
 
 -- made in the same way of faces and trees that are alike
 abbrev pub Near : {A : Type 0} → P A → A → A → Type 0
-Near a x y = Like Sighted Face Symbol Sort face_of (rule false) unplaced NearFace Alike a x y
+Near a x y = Like Sight Face Symbol Sort (rule false) unplaced NearFace Alike a x y
 
 -- the images of near values under h are equal
 abbrev pub Keeps : {A B : Type 0} → P A → (A → B) → Type 0

@@ -13,7 +13,7 @@ use Rattle.sw_tree.specs.declared.stmt.Stmt.TheVariants as s
 use Rattle.sw_syntax.specs.Tokens.{Face}
 use Rattle.sw_syntax.specs.Tests.{is_else, is_any_else, is_else_if, is_assignment, is_range}
 use Rattle.sw_syntax.specs.Values.{or_none, assign_of, binding_of, range_of}
-use Rattle.sw_syntax.specs.Forms.{or_empty, ahead, only_arms, assigned, else_if, else_block}
+use Rattle.sw_syntax.specs.Forms.{range_end, or_empty, ahead, only_arms, assigned, else_if, else_block}
 use Rattle.sw_syntax.specs.Symbols.{Place, InBlock, InArm, Ending, Open, Closed, Block, Sbody, Stmts, AfterStmt, AfterReturn, Stmt', If, Arms, Pat, Cpat, Body, Branches}
 use Rattle.sw_syntax.specs.Parts.{P, ◌·◌, ◌∣◌, tok, name, behind, any, whole_expr}
 use Rattle.sw_syntax.specs.Grammar.{rule, annotation, branch, arm_label, catch, next_stmts}
@@ -115,10 +115,10 @@ near_variable : Keeps (gives Some name ∣ gives (λ _. None) (tok k.Underscore)
 near_variable x y (inl (v, w, p, ex, ey)) = meet (option_map erase_name) ex ey (ap Some (names v w p))
 near_variable x y (inr (v, w, p, ex, ey)) = meet (option_map erase_name) ex ey refl
 
-abbrev range_end : P RangeEnd
-range_end = gives (λ x. record { operator = range_of x.0.kind; value = x.1 }) (mark is_range · whole_expr)
+abbrev range_part : P RangeEnd
+range_part = gives (λ x. range_end x.0 x.1) (mark is_range · whole_expr)
 
-near_range_end : Keeps range_end erase_range_end
+near_range_end : Keeps range_part erase_range_end
 near_range_end x y (v, w, (p, q), ex, ey) = meet erase_range_end ex ey (let a = ap range_of p.0 in let h : erase_expr v.1 ≡ erase_expr w.1 = q in cc)
 
 pub near_open : Keeps (rule false (Stmt' Open)) erase_stmt
@@ -141,7 +141,7 @@ near_closed x y (inr (inr (inl ((at, (v, vs)), (at', (w, ws)), (p, (q, r)), ex, 
     meet erase_stmt ex ey (let a = ErasedStmt.erased-While at v vs in let b = ErasedStmt.erased-While at' w ws in let c = near_conds v w q in cc)
 near_closed x y (inr (inr (inr (inl ((at, (n, (i, (v, (o, vs))))), (at', (m, (j, (w, (r, ws))))), (_, (pn, (_, (pv, (po, pb))))), ex, ey))))) =
     meet erase_stmt ex ey (let a = ErasedStmt.erased-For at n v o vs in let b = ErasedStmt.erased-For at' m w r ws in let c = near_variable n m pn in
-    let d = options range_end erase_range_end near_range_end o r po in let f : erase_expr v ≡ erase_expr w = pv in let h : map erase_stmt vs ≡ map erase_stmt ws = pb in cc)
+    let d = options range_part erase_range_end near_range_end o r po in let f : erase_expr v ≡ erase_expr w = pv in let h : map erase_stmt vs ≡ map erase_stmt ws = pb in cc)
 near_closed x y (inr (inr (inr (inr (inl ((at, (v, vs)), (at', (w, ws)), (_, (p, q)), ex, ey)))))) =
     meet erase_stmt ex ey (let a = ErasedStmt.erased-Switch at v vs in let b = ErasedStmt.erased-Switch at' w ws in let c : erase_expr v ≡ erase_expr w = p in
     let d = braces (gives or_none (maybe (g.sym Arms))) (map erase_arm) (or_none_lists (g.sym Arms) erase_arm (λ x y p. p)) vs ws q in cc)

@@ -11,7 +11,7 @@ use Rattle.sw_syntax.specs.Symbols.{Listed, Decls, Members, Items, Requirements,
 
 -- a token without its place
 abbrev pub unplaced : Sighted → Sighted
-unplaced t = record { class = t.class; is_first = t.is_first; before_colon = t.before_colon; face = record { kind = t.face.kind; text = t.face.text; span = nowhere } }
+unplaced t = record { sight = t.sight; face = record { kind = t.face.kind; text = t.face.text; span = nowhere } }
 
 -- ---- trees
 

@@ -1,5 +1,5 @@
 -- Expressions are written as words that stand apart.
-use Rattle.std.proofs.Common.{◌≡◌, Bool, true, false, not, cond, ◌&&◌, List, [], ◌∷◌, ◌++◌, map, Option, Some, None, refl, sym, subst, append_assoc}
+use Rattle.std.proofs.Common.{◌≡◌, Bool, true, false, not, cond, ◌&&◌, List, [], ◌∷◌, ◌++◌, map, Option, Some, None, refl, sym, ap, ◌∙◌, subst, append_assoc}
 use mathlib.Core.Logic.{inr}
 use Rattle.std.specs.Fmt.{signed_decimal}
 use Rattle.sw_lex.specs.declared.token.TokenKind.{TokenKind}
@@ -204,4 +204,4 @@ expr_held = ind-Expr (λ x. Held (expr_words x)) (λ x. Held (inner_words x)) (�
     (λ x y is. subst (λ x. Held (inner_piece (roll-StringPiece x)).0) is (piece_node y))
 
 pub literal_held : (x : Literal) → Held (literal_words x)
-literal_held x = expr_held (e.Literal nowhere x)
+literal_held x = subst Held (ap expr_words (sym (e.rolls-Literal nowhere x)) ∙ fold-roll-Expr W W W (W × Text) _ _ _ _ (Expr-F.Literal nowhere x)) (expr_held (e.Literal nowhere x))

@@ -6,7 +6,7 @@ use Rattle.sw_lex.specs.Bytes.{Text}
 use Rattle.sw_lex.specs.declared.token.TokenKind.TheVariants as k
 use Rattle.sw_layout.specs.declared.gap.Gap.{Gap}
 use Rattle.sw_layout.specs.declared.gap.Gap.TheVariants as gap
-use Rattle.sw_layout.specs.Words.{plain, nowhere}
+use Rattle.sw_layout.specs.Words.{plain}
 use Rattle.sw_tree.specs.declared.expr.Name.{Name}
 use Rattle.sw_tree.specs.declared.expr.TryForm.{TryForm}
 use Rattle.sw_tree.specs.declared.expr.PrefixOperator.{PrefixOperator}
@@ -16,7 +16,7 @@ use Rattle.sw_tree.specs.declared.expr.StringPiece.{StringPiece}
 use Rattle.sw_tree.specs.declared.expr.Literal.{Literal, roll-Literal, map-Literal}
 use Rattle.sw_tree.specs.declared.expr.Literal.TheVariants as l
 use Rattle.sw_tree.specs.declared.expr.Expr.{Expr}
-use Rattle.sw_tree.specs.declared.expr.Expr.TheFolds.{fold-roll-Expr, fold-Literal, fold-Argument, fold-StringPiece, fold-roll-Literal, fold_out-Argument, fold_out-StringPiece}
+use Rattle.sw_tree.specs.declared.expr.Expr.TheFolds.{fold-roll-Expr, fold-Argument, fold-StringPiece, fold-roll-Literal, fold_out-Argument, fold_out-StringPiece}
 use Rattle.sw_tree.specs.declared.expr.Expr.TheOpen.{Expr-F, Literal-F}
 use Rattle.sw_tree.specs.declared.expr.Expr.TheVariants as e
 use Rattle.sw_tree.specs.declared.types.«Type».{«Type» as TypeTree, fold-roll-Type}
@@ -38,9 +38,6 @@ argument_fold = fold-Argument W W W (W × Text) expr_level literal_level argumen
 
 piece_fold : StringPiece → W × Text
 piece_fold = fold-StringPiece W W W (W × Text) expr_level literal_level argument_level piece_level
-
-literal_fold : Literal → W
-literal_fold = fold-Literal W W W (W × Text) expr_level literal_level argument_level piece_level
 
 -- the words of an expression in a string, and the text behind it
 abbrev pub piece_pair : StringPiece → W × Text
@@ -135,12 +132,8 @@ of_index x span y g = at (ap expr_words (sym (e.rolls-Index x (span, y))) ∙ fo
 pub of_force : (x : Expr) (span : Span) (g : Gap) → expr_words (e.Force x span) g ≡ expr_words x g ++ plain k.Bang gap.Joined ∷ []
 of_force x span g = at (ap expr_words (sym (e.rolls-Force x span)) ∙ fold-roll-Expr W W W (W × Text) _ _ _ _ (Expr-F.Force x span)) g
 
-of_literal_fold : (span : Span) (value : Literal) (g : Gap) → expr_words (e.Literal span value) g ≡ literal_fold value g
-unfolding literal_fold
-of_literal_fold span value g = at (ap expr_words (sym (e.rolls-Literal span value)) ∙ fold-roll-Expr W W W (W × Text) _ _ _ _ (Expr-F.Literal span value)) g
-
 pub of_literal : (span : Span) (value : Literal) (g : Gap) → expr_words (e.Literal span value) g ≡ literal_words value g
-of_literal span value g = of_literal_fold span value g ∙ sym (of_literal_fold nowhere value g)
+of_literal span value g = at (ap expr_words (sym (e.rolls-Literal span value)) ∙ fold-roll-Expr W W W (W × Text) _ _ _ _ (Expr-F.Literal span value)) g
 
 pub of_nil : (span : Span) (g : Gap) → expr_words (e.Nil span) g ≡ plain k.Nil g ∷ []
 of_nil span g = at (ap expr_words (sym (e.rolls-Nil span)) ∙ fold-roll-Expr W W W (W × Text) _ _ _ _ (Expr-F.Nil span)) g
@@ -169,9 +162,9 @@ of_wait name g = at (ap expr_words (sym (e.rolls-Wait name)) ∙ fold-roll-Expr 
 -- ---- literals
 
 literal_roll : (layer : Literal-F Expr Literal Argument StringPiece) (value : Literal) → roll-Literal layer ≡ value → (g : Gap)
-    → literal_words value g ≡ literal_level (map-Literal Expr Literal Argument StringPiece W W W (W × Text) expr_words literal_fold argument_fold piece_fold layer) g
-unfolding literal_fold argument_fold piece_fold
-literal_roll layer value h g = of_literal_fold nowhere value g ∙ at (ap literal_fold (sym h) ∙ fold-roll-Literal W W W (W × Text) expr_level literal_level argument_level piece_level layer) g
+    → literal_words value g ≡ literal_level (map-Literal Expr Literal Argument StringPiece W W W (W × Text) expr_words literal_words argument_fold piece_fold layer) g
+unfolding argument_fold piece_fold
+literal_roll layer value h g = at (ap literal_words (sym h) ∙ fold-roll-Literal W W W (W × Text) expr_level literal_level argument_level piece_level layer) g
 
 pub of_integer : (n : ℤ) (g : Gap) → literal_words (l.Integer n) g ≡ word k.Integer (signed_decimal n) g ∷ []
 of_integer n g = literal_roll (Literal-F.Integer n) (l.Integer n) (l.rolls-Integer n) g

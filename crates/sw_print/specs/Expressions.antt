@@ -7,7 +7,7 @@ use Rattle.sw_lex.specs.Bytes.{Text}
 use Rattle.sw_lex.specs.Tables.{kind_of_word}
 use Rattle.sw_layout.specs.declared.gap.Gap.{Gap}
 use Rattle.sw_layout.specs.declared.gap.Gap.TheVariants as gap
-use Rattle.sw_layout.specs.Words.{Word, plain, nowhere}
+use Rattle.sw_layout.specs.Words.{Word, plain}
 use Rattle.sw_tree.specs.declared.expr.Name.{Name}
 use Rattle.sw_tree.specs.declared.expr.TryForm.{TryForm}
 use Rattle.sw_tree.specs.declared.expr.TryForm.TheVariants as try_form
@@ -16,10 +16,9 @@ use Rattle.sw_tree.specs.declared.expr.PrefixOperator.TheVariants as prefix
 use Rattle.sw_tree.specs.declared.expr.BinaryOperator.{BinaryOperator}
 use Rattle.sw_tree.specs.declared.expr.BinaryOperator.TheVariants as binary
 use Rattle.sw_tree.specs.declared.expr.Argument.{Argument}
-use Rattle.sw_tree.specs.declared.expr.Literal.{Literal}
+use Rattle.sw_tree.specs.declared.expr.Literal.{Literal, fold-Literal}
 use Rattle.sw_tree.specs.declared.expr.Expr.{Expr, fold-Expr}
 use Rattle.sw_tree.specs.declared.expr.Expr.TheOpen.{Expr-F, Literal-F, Argument-F, StringPiece-F}
-use Rattle.sw_tree.specs.declared.expr.Expr.TheVariants as e
 use Rattle.sw_tree.specs.declared.types.«Type».{«Type» as TypeTree, fold-Type}
 use Rattle.sw_tree.specs.declared.types.«Type».TheOpen.{Type-F}
 
@@ -175,9 +174,8 @@ expr_level (Expr-F.Wait name) g = name_word name g ∷ []
 abbrev pub expr_words : Expr → W
 expr_words = fold-Expr W W W (W × Text) expr_level literal_level argument_level piece_level
 
--- a literal by itself is written as the expression that it is
 abbrev pub literal_words : Literal → W
-literal_words value = expr_words (e.Literal nowhere value)
+literal_words = fold-Literal W W W (W × Text) expr_level literal_level argument_level piece_level
 
 abbrev pub argument_words : Argument → W
 argument_words x = labelled x.label (expr_words x.value)

@@ -18,8 +18,3 @@ mod types;
 mod writing;
 
 pub use printing::print;
-
-#[cfg(test)]
-mod round_trips;
-#[cfg(test)]
-mod tests;

@@ -8,6 +8,7 @@ use Rattle.sw_tree.specs.declared.expr.Expr.{Expr as ExprTree}
 use Rattle.sw_tree.specs.declared.stmt.Stmt.{Stmt}
 use Rattle.sw_tree.specs.declared.stmt.Stmt.TheVariants as s
 use Rattle.sw_tree.specs.declared.stmt.SwitchArm.{SwitchArm}
+use Rattle.sw_syntax.specs.declared.class.Sight.{Sight}
 use Rattle.sw_syntax.specs.Tokens.{same_kind, Sighted, Face}
 use Rattle.sw_syntax.specs.Tests.{is, is_first, goes_on_line, goes_on_below, starts_expr}
 use Rattle.sw_syntax.specs.Values.{or_none}
@@ -16,7 +17,7 @@ use Rattle.sw_syntax.specs.Symbols.{Listed, Place, InBlock, InArm, Ending, Open,
 use Rattle.sw_syntax.specs.Parts.{P, ◌·◌, ◌∣◌, tok, place, behind, whole_expr}
 use Rattle.sw_syntax.specs.Grammar.{list_of, next_stmts, begins_below}
 use Rattle.sw_syntax.specs.Tables.{starts_item, starts_stmt_of, starts_stmt, starts_arm}
-use Rattle.sw_syntax.specs.Meaning.{read, read_part, Takes}
+use Rattle.sw_syntax.specs.Answering.{read, read_part, Takes}
 use Rattle.sw_syntax.specs.Lists.{items_from, items_behind}
 use Rattle.sw_syntax.specs.Bodies.{put, body_from, behind_stmt, behind_return, behind_body, is_returned, arms_from}
 use Rattle.sw_syntax.proofs.Classes.{apart}
@@ -60,7 +61,7 @@ behind_item : (lenient : Bool) (kind : Listed) (d l c : ℕ) (xs : List (ItemTre
 unfolding items_behind
 behind_item lenient kind d l c xs x ts = bind_same (read lenient (Rest kind) d l c ts) _ _ (λ ys c' r. ap (λ l. got l c' r) (sym (append_assoc xs (x ∷ []) ys)))
 
-abbrev below : Listed → Sighted → Bool
+abbrev below : Listed → Sight → Bool
 below kind t = is_first t && starts_item kind t
 
 pub items_semicolon : (lenient : Bool) (kind : Listed) (d l c : ℕ) (xs : List (ItemTree kind)) (x : ItemTree kind) (ts : List Sighted) (f : Face) (r : List Sighted) → at_first (is k.Semicolon) ts ≡ true → Takes (is k.Semicolon) ts f r
@@ -87,12 +88,12 @@ end_list false false i semicolon items off none h h' = refl
 rest_line : (lenient : Bool) (kind : Listed) (d l c : ℕ) (ts : List Sighted) → at_first (is k.Semicolon) ts ≡ false → at_first is_first ts ≡ true → read lenient (Rest kind) d l c ts ≡ read_part lenient (list_of kind) d l c ts
 rest_line lenient kind d l c [] h h' = absurd cc
 rest_line lenient kind d l c (t ∷ ts) h h' = step lenient (Rest kind) d l c (t ∷ ts)
-    ∙ line_list (is k.Semicolon t) (is_first t) (starts_item kind t) (read_part lenient (behind (tok k.Semicolon) (list_of kind)) d l c (t ∷ ts)) (read lenient (Some' kind) d l c (t ∷ ts)) (bad stuck (t ∷ ts)) (got None c (t ∷ ts)) h h'
+    ∙ line_list (is k.Semicolon t.sight) (is_first t.sight) (starts_item kind t.sight) (read_part lenient (behind (tok k.Semicolon) (list_of kind)) d l c (t ∷ ts)) (read lenient (Some' kind) d l c (t ∷ ts)) (bad stuck (t ∷ ts)) (got None c (t ∷ ts)) h h'
 
 rest_end : (lenient : Bool) (kind : Listed) (d l c : ℕ) (ts : List Sighted) → at_first (is k.Semicolon) ts ≡ false → at_first is_first ts ≡ false → read lenient (Rest kind) d l c ts ≡ got [] c ts
 rest_end lenient kind d l c [] h h' = step lenient (Rest kind) d l c []
 rest_end lenient kind d l c (t ∷ ts) h h' = step lenient (Rest kind) d l c (t ∷ ts)
-    ∙ end_list (is k.Semicolon t) (is_first t) (starts_item kind t) (read_part lenient (behind (tok k.Semicolon) (list_of kind)) d l c (t ∷ ts)) (read lenient (Some' kind) d l c (t ∷ ts)) (bad stuck (t ∷ ts)) (got None c (t ∷ ts)) h h'
+    ∙ end_list (is k.Semicolon t.sight) (is_first t.sight) (starts_item kind t.sight) (read_part lenient (behind (tok k.Semicolon) (list_of kind)) d l c (t ∷ ts)) (read lenient (Some' kind) d l c (t ∷ ts)) (bad stuck (t ∷ ts)) (got None c (t ∷ ts)) h h'
 
 pub items_line : (lenient : Bool) (kind : Listed) (d l c : ℕ) (xs : List (ItemTree kind)) (x : ItemTree kind) (ts : List Sighted) → at_first (is k.Semicolon) ts ≡ false → at_first is_first ts ≡ true
     → items_behind lenient kind d l c xs x ts ≡ items_from lenient kind d l c (xs ++ x ∷ []) ts
@@ -144,7 +145,7 @@ pub arm_end : (lenient : Bool) (d l c : ℕ) (xs : List Stmt) (ts : List Sighted
 unfolding body_from
 arm_end lenient d l c xs [] h h' = ap (λ o. o >>= puts xs) (step lenient (Sbody InArm) d l c []) ∙ ap (λ body. got body c []) (put_empty xs)
 arm_end lenient d l c xs (t ∷ ts) h h' = ap (λ o. o >>= puts xs) (step lenient (Sbody InArm) d l c (t ∷ ts)
-    ∙ ap (λ o. o >>= or_body) (no_statement (starts_stmt t) (starts_arm t) (read lenient (Stmts InArm) d l c (t ∷ ts)) (got None c (t ∷ ts)) (read_part lenient (g.gives only_arms (g.sym Arms)) d l c (t ∷ ts)) h h'))
+    ∙ ap (λ o. o >>= or_body) (no_statement (starts_stmt t.sight) (starts_arm t.sight) (read lenient (Stmts InArm) d l c (t ∷ ts)) (got None c (t ∷ ts)) (read_part lenient (g.gives only_arms (g.sym Arms)) d l c (t ∷ ts)) h h'))
     ∙ ap (λ body. got body c (t ∷ ts)) (put_empty xs)
 
 put_arms : (xs : List Stmt) (o : Out Sighted (List SwitchArm)) → (((o >>= (λ arms c r. got (only_arms arms) c r)) >>= (λ body c r. got (or_empty (Some body)) c r)) >>= puts xs) ≡ (o >>= (λ arms c r. got (xs, arms) c r))
@@ -241,17 +242,17 @@ and_left : (a b : Bool) → (a && b) ≡ true → a ≡ true
 and_left true b h = refl
 and_left false b h = absurd cc
 
-begins_first : (ending : Ending) (t : Sighted) → begins_below ending t ≡ true → t.is_first ≡ true
+begins_first : (ending : Ending) (t : Sight) → begins_below ending t ≡ true → t.is_first ≡ true
 begins_first Open t h = and_left t.is_first (not (goes_on_below t)) h
 begins_first Closed t h = h
 
 after_line : (lenient : Bool) (at : Place) (ending : Ending) (d l c : ℕ) (ts : List Sighted) → at_first (is k.Semicolon) ts ≡ false → at_first (begins_below ending) ts ≡ true → read lenient (AfterStmt at ending) d l c ts ≡ read lenient (Sbody at) d l c ts
 after_line lenient at ending d l c [] h h' = absurd cc
 after_line lenient InBlock ending d l c (t ∷ ts) h h' = step lenient (AfterStmt InBlock ending) d l c (t ∷ ts)
-    ∙ line_block (is k.Semicolon t) (begins_below ending t) (starts_stmt t) (read_part lenient (semicolon_part InBlock) d l c (t ∷ ts)) (read lenient (Stmts InBlock) d l c (t ∷ ts)) (bad stuck (t ∷ ts)) (got None c (t ∷ ts)) h h'
+    ∙ line_block (is k.Semicolon t.sight) (begins_below ending t.sight) (starts_stmt t.sight) (read_part lenient (semicolon_part InBlock) d l c (t ∷ ts)) (read lenient (Stmts InBlock) d l c (t ∷ ts)) (bad stuck (t ∷ ts)) (got None c (t ∷ ts)) h h'
     ∙ sym (step lenient (Sbody InBlock) d l c (t ∷ ts))
 after_line lenient InArm ending d l c (t ∷ ts) h h' = step lenient (AfterStmt InArm ending) d l c (t ∷ ts)
-    ∙ line_arm (is k.Semicolon t) (begins_below ending t) (starts_stmt t) t.is_first (starts_arm t) (read_part lenient (semicolon_part InArm) d l c (t ∷ ts)) (read lenient (Stmts InArm) d l c (t ∷ ts)) (bad stuck (t ∷ ts)) (read lenient Arms d l c (t ∷ ts)) (bad stuck (t ∷ ts)) (got None c (t ∷ ts)) h h' (begins_first ending t h')
+    ∙ line_arm (is k.Semicolon t.sight) (begins_below ending t.sight) (starts_stmt t.sight) t.sight.is_first (starts_arm t.sight) (read_part lenient (semicolon_part InArm) d l c (t ∷ ts)) (read lenient (Stmts InArm) d l c (t ∷ ts)) (bad stuck (t ∷ ts)) (read lenient Arms d l c (t ∷ ts)) (bad stuck (t ∷ ts)) (got None c (t ∷ ts)) h h' (begins_first ending t.sight h')
     ∙ sym (step lenient (Sbody InArm) d l c (t ∷ ts))
 
 end_block : (a b i : Bool) (semicolon items off : Out Sighted Body) (none : Out Sighted (Option Body)) → a ≡ false → b ≡ false
@@ -273,18 +274,18 @@ no_arm_of true false arm h apart = absurd cc
 no_arm_of true true true h apart = absurd (apart refl refl)
 no_arm_of true true false h apart = refl
 
-no_arm : (ending : Ending) (t : Sighted) → begins_below ending t ≡ false → (t.is_first && starts_arm t) ≡ false
+no_arm : (ending : Ending) (t : Sight) → begins_below ending t ≡ false → (t.is_first && starts_arm t) ≡ false
 unfolding same_kind
-no_arm Open t h = no_arm_of t.is_first (goes_on_below t) (starts_arm t) h (apart goes_on_below starts_arm (λ t. refl) (λ t. refl) refl t)
+no_arm Open t h = no_arm_of t.is_first (goes_on_below t) (starts_arm t) h (apart goes_on_below starts_arm refl t)
 no_arm Closed t h = ap (λ b. b && starts_arm t) h
 
 after_end : (lenient : Bool) (at : Place) (ending : Ending) (d l c : ℕ) (ts : List Sighted) → at_first (is k.Semicolon) ts ≡ false → at_first (begins_below ending) ts ≡ false → read lenient (AfterStmt at ending) d l c ts ≡ got empty_body c ts
 after_end lenient InBlock ending d l c [] h h' = step lenient (AfterStmt InBlock ending) d l c []
 after_end lenient InArm ending d l c [] h h' = step lenient (AfterStmt InArm ending) d l c []
 after_end lenient InBlock ending d l c (t ∷ ts) h h' = step lenient (AfterStmt InBlock ending) d l c (t ∷ ts)
-    ∙ end_block (is k.Semicolon t) (begins_below ending t) (starts_stmt t) (read_part lenient (semicolon_part InBlock) d l c (t ∷ ts)) (read lenient (Stmts InBlock) d l c (t ∷ ts)) (bad stuck (t ∷ ts)) (got None c (t ∷ ts)) h h'
+    ∙ end_block (is k.Semicolon t.sight) (begins_below ending t.sight) (starts_stmt t.sight) (read_part lenient (semicolon_part InBlock) d l c (t ∷ ts)) (read lenient (Stmts InBlock) d l c (t ∷ ts)) (bad stuck (t ∷ ts)) (got None c (t ∷ ts)) h h'
 after_end lenient InArm ending d l c (t ∷ ts) h h' = step lenient (AfterStmt InArm ending) d l c (t ∷ ts)
-    ∙ end_arm (is k.Semicolon t) (begins_below ending t) (starts_stmt t) (t.is_first && starts_arm t) (read_part lenient (semicolon_part InArm) d l c (t ∷ ts)) (read_part lenient (g.when (begins_below ending) (g.sym (Stmts InArm))) d l c (t ∷ ts)) (read_part lenient (g.gives only_arms (g.when is_first (g.sym Arms))) d l c (t ∷ ts)) (got None c (t ∷ ts)) h h' (no_arm ending t h')
+    ∙ end_arm (is k.Semicolon t.sight) (begins_below ending t.sight) (starts_stmt t.sight) (t.sight.is_first && starts_arm t.sight) (read_part lenient (semicolon_part InArm) d l c (t ∷ ts)) (read_part lenient (g.when (begins_below ending) (g.sym (Stmts InArm))) d l c (t ∷ ts)) (read_part lenient (g.gives only_arms (g.when is_first (g.sym Arms))) d l c (t ∷ ts)) (got None c (t ∷ ts)) h h' (no_arm ending t.sight h')
 
 pub behind_semicolon : (lenient : Bool) (at : Place) (ending : Ending) (d l c : ℕ) (xs : List Stmt) (x : Stmt) (ts : List Sighted) (f : Face) (r : List Sighted) → at_first (is k.Semicolon) ts ≡ true → Takes (is k.Semicolon) ts f r
     → behind_stmt lenient at ending d l c xs x ts ≡ body_from lenient at d l c (xs ++ x ∷ []) r
@@ -318,7 +319,7 @@ return_as lenient at d l c xs span ts = ap (λ o. o >>= returns xs span) (step l
 
 goes_first : (ts : List Sighted) → at_first is_returned ts ≡ true → at_first goes_on_line ts ≡ true
 goes_first [] h = h
-goes_first (t ∷ ts) h = and_left (goes_on_line t) (starts_expr t) h
+goes_first (t ∷ ts) h = and_left (goes_on_line t.sight) (starts_expr t.sight) h
 
 pub return_value : (lenient : Bool) (at : Place) (d l c : ℕ) (xs : List Stmt) (span : Span) (ts : List Sighted) → at_first is_returned ts ≡ true
     → behind_return lenient at d l c xs span ts ≡ (read lenient Expr d l l ts >>= (λ x _ r. behind_stmt lenient at Open d l c xs (s.Return span (Some x)) r))
@@ -345,7 +346,7 @@ pub return_bare : (lenient : Bool) (at : Place) (d l c : ℕ) (xs : List Stmt) (
 unfolding behind_stmt
 return_bare lenient at d l c xs span [] h = return_as lenient at d l c xs span [] ∙ ap (λ o. o >>= (λ body c' r. got (put xs (ahead (s.Return span None) body)) c' r)) (sym (step lenient (AfterStmt at Closed) d l c []))
 return_bare lenient at d l c xs span (t ∷ ts) h = return_as lenient at d l c xs span (t ∷ ts)
-    ∙ bare_body xs span c (t ∷ ts) (is_returned t) (starts lenient (next_stmts at Closed) t) (read_part lenient (value_part at) d l c (t ∷ ts)) (read_part lenient (next_stmts at Closed) d l c (t ∷ ts)) h
+    ∙ bare_body xs span c (t ∷ ts) (is_returned t.sight) (starts lenient (next_stmts at Closed) t.sight) (read_part lenient (value_part at) d l c (t ∷ ts)) (read_part lenient (next_stmts at Closed) d l c (t ∷ ts)) h
     ∙ ap (λ o. o >>= (λ body c' r. got (put xs (ahead (s.Return span None) body)) c' r)) (sym (step lenient (AfterStmt at Closed) d l c (t ∷ ts)))
 
 -- ---- arms

@@ -1,10 +1,10 @@
 -- What holds of each class of token is found by computing.
-use Rattle.std.proofs.Common.{◌≡◌, ℕ, zero, suc, ◌<◌, Bool, true, false, not, ◌||◌, ◌&&◌, List, [], ◌∷◌, length, get_or, refl, sym, ◌∙◌, subst, arith}
+use Rattle.std.proofs.Common.{◌≡◌, ℕ, zero, suc, ◌<◌, Bool, true, false, not, ◌&&◌, List, [], ◌∷◌, length, get_or, refl, subst, arith}
 use Rattle.sw_lex.specs.declared.token.TokenKind.TheVariants as k
+use Rattle.sw_syntax.specs.declared.class.Sight.{Sight}
 use Rattle.sw_grammar.specs.Deciding.{Apart}
 use Rattle.sw_syntax.specs.declared.class.Class.{Class}
 use Rattle.sw_syntax.specs.declared.class.Class.TheVariants.{Is, Actor, Distributed, Nonisolated, Mutating, Final, Get, GetBlock, ElseIf, TouchingBang, TouchingQuestion, SpacedQuestion, LooseMinus}
-use Rattle.sw_syntax.specs.Tokens.{Sighted}
 
 -- ---- each class
 
@@ -162,32 +162,18 @@ flags_hold p e a b = go (halves _ _ e) a b
     go h true false = (halves _ _ h.1).0
     go h true true = (halves _ _ h.1).1
 
--- a token without what no test looks at
-abbrev pub plain : Class → Bool → Bool → Sighted
-plain x a b = record { class = x; is_first = a; before_colon = b; face = record { kind = k.End; text = []; span = record { line = 0; column = 0 } } }
+-- a test of all sights
+abbrev pub each_sight : (Sight → Bool) → Bool
+each_sight p = at_each (λ x. at_flags (λ a b. p (record { class = x; is_first = a; before_colon = b }))) classes
 
-abbrev pub plainly : Sighted → Sighted
-plainly t = plain t.class t.is_first t.before_colon
+pub at_each_sight : (p : Sight → Bool) → each_sight p ≡ true → (s : Sight) → p s ≡ true
+at_each_sight p e s =
+    flags_hold (λ a b. p (record { class = s.class; is_first = a; before_colon = b })) (each_class (λ x. at_flags (λ a b. p (record { class = x; is_first = a; before_colon = b }))) e s.class) s.is_first s.before_colon
 
--- a test that looks at the class and the flags alone
-abbrev pub IsPlain : (Sighted → Bool) → Type 0
-IsPlain f = (t : Sighted) → f t ≡ f (plainly t)
+not_both : (f h : Bool) → not (f && h) ≡ true → f ≡ true → h ≡ true → ⊥
+not_both true h e p q = cc
+not_both false h e p q = cc
 
-each_plain : (p : Class → Bool → Bool → Bool) → at_each (λ x. at_flags (p x)) classes ≡ true → (x : Class) (a b : Bool) → p x a b ≡ true
-each_plain p e x a b = flags_hold (p x) (each_class (λ x. at_flags (p x)) e x) a b
-
-clash : (f h : Bool) → not (f && h) ≡ true → f ≡ true → h ≡ true → ⊥
-clash true h e p q = cc
-clash false h e p q = cc
-
-implied : (f h : Bool) → (not f || h) ≡ true → f ≡ true → h ≡ true
-implied true h e p = e
-implied false h e p = cc
-
--- no token passes both tests
-pub apart : (f h : Sighted → Bool) → IsPlain f → IsPlain h → at_each (λ x. at_flags (λ a b. not (f (plain x a b) && h (plain x a b)))) classes ≡ true → Apart f h
-apart f h pf ph e t p q = clash (f (plainly t)) (h (plainly t)) (each_plain (λ x a b. not (f (plain x a b) && h (plain x a b))) e t.class t.is_first t.before_colon) (sym (pf t) ∙ p) (sym (ph t) ∙ q)
-
--- each token that passes the first test passes the second
-pub follows : (f h : Sighted → Bool) → IsPlain f → IsPlain h → at_each (λ x. at_flags (λ a b. not (f (plain x a b)) || h (plain x a b))) classes ≡ true → (t : Sighted) → f t ≡ true → h t ≡ true
-follows f h pf ph e t p = ph t ∙ implied (f (plainly t)) (h (plainly t)) (each_plain (λ x a b. not (f (plain x a b)) || h (plain x a b)) e t.class t.is_first t.before_colon) (sym (pf t) ∙ p)
+-- no sight passes both tests
+pub apart : (f h : Sight → Bool) → each_sight (λ s. not (f s && h s)) ≡ true → Apart f h
+apart f h e s = not_both (f s) (h s) (at_each_sight (λ s. not (f s && h s)) e s)

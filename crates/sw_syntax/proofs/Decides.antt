@@ -1,66 +1,84 @@
 -- One token ahead decides the grammar: the tables are those of the productions, and no symbol calls itself before it takes a token.
-use Rattle.std.proofs.Common.{◌≡◌, zero, suc, ◌<◌, Bool, true, false, arith, lit<}
+use Rattle.std.proofs.Common.{◌≡◌, refl, zero, suc, ◌<◌, Bool, true, false, arith, lit<}
 use Rattle.sw_grammar.specs.Deciding.{IsTable, Leads, IsDecided}
-use Rattle.sw_syntax.specs.Tokens.{Sighted, Face, face_of}
+use Rattle.sw_syntax.specs.declared.class.Sight.{Sight}
+use Rattle.sw_syntax.specs.Tokens.{same_kind, Face}
 use Rattle.sw_syntax.specs.Symbols.{Decls, Members, Items, Requirements, InBlock, InArm, Open, Closed, Symbol, File, Some', Rest, Item, Param, Case, Payload, Type', Base, Block, Sbody, Stmts, AfterStmt, AfterReturn, Stmt', If, Arms, Cond, Pat, Cpat, Expr, Tern, Bin, Prefix, Post, Form, Arg, Prim, Elements, Sort}
 use Rattle.sw_syntax.specs.Grammar.{rule}
+use Rattle.sw_grammar.specs.Checking.{is_table}
+use Rattle.sw_grammar.proofs.Checked.{table_checked}
+use Rattle.sw_syntax.proofs.Classes.{each_sight, at_each_sight}
 use Rattle.sw_syntax.specs.Tables.{heads, tails, empties, rank, width}
-use Rattle.sw_syntax.proofs.ExprTable.{expr, tern, prefix, post, form, arg, prim, elements, bin_0, bin_1, bin_2, bin_3, bin_4, bin_5, bin_strong}
-use Rattle.sw_syntax.proofs.StmtTable.{sbody_in_block, stmts_in_block, after_open_in_block, after_closed_in_block, after_return_in_block, sbody_in_arm, stmts_in_arm, after_open_in_arm, after_closed_in_arm, after_return_in_arm, open_stmt, closed_stmt, if_, arms, cond, pat, cpat}
-use Rattle.sw_syntax.proofs.DeclTable.{file, some_decls, some_members, some_items, some_requirements, rest_decls, rest_members, rest_items, rest_requirements, item_decls, item_members, item_items, item_requirements, param, case_, payload, type_, base, block}
 
-table : (lenient : Bool) (x : Symbol) → IsTable Sighted Face Symbol Sort face_of (rule lenient) heads empties tails x
-table lenient File = file lenient
-table lenient (Some' Decls) = some_decls lenient
-table lenient (Some' Members) = some_members lenient
-table lenient (Some' Items) = some_items lenient
-table lenient (Some' Requirements) = some_requirements lenient
-table lenient (Rest Decls) = rest_decls lenient
-table lenient (Rest Members) = rest_members lenient
-table lenient (Rest Items) = rest_items lenient
-table lenient (Rest Requirements) = rest_requirements lenient
-table lenient (Item Decls) = item_decls lenient
-table lenient (Item Members) = item_members lenient
-table lenient (Item Items) = item_items lenient
-table lenient (Item Requirements) = item_requirements lenient
-table lenient Param = param lenient
-table lenient Case = case_ lenient
-table lenient Payload = payload lenient
-table lenient Type' = type_ lenient
-table lenient Base = base lenient
-table lenient Block = block lenient
-table lenient (Sbody InBlock) = sbody_in_block lenient
-table lenient (Stmts InBlock) = stmts_in_block lenient
-table lenient (AfterStmt InBlock Open) = after_open_in_block lenient
-table lenient (AfterStmt InBlock Closed) = after_closed_in_block lenient
-table lenient (AfterReturn InBlock) = after_return_in_block lenient
-table lenient (Sbody InArm) = sbody_in_arm lenient
-table lenient (Stmts InArm) = stmts_in_arm lenient
-table lenient (AfterStmt InArm Open) = after_open_in_arm lenient
-table lenient (AfterStmt InArm Closed) = after_closed_in_arm lenient
-table lenient (AfterReturn InArm) = after_return_in_arm lenient
-table lenient (Stmt' Open) = open_stmt lenient
-table lenient (Stmt' Closed) = closed_stmt lenient
-table lenient If = if_ lenient
-table lenient Arms = arms lenient
-table lenient Cond = cond lenient
-table lenient Pat = pat lenient
-table lenient Cpat = cpat lenient
-table lenient Expr = expr lenient
-table lenient Tern = tern lenient
-table lenient Prefix = prefix lenient
-table lenient Post = post lenient
-table lenient Form = form lenient
-table lenient Arg = arg lenient
-table lenient Prim = prim lenient
-table lenient Elements = elements lenient
-table lenient (Bin zero) = bin_0 lenient
-table lenient (Bin (suc zero)) = bin_1 lenient
-table lenient (Bin (suc (suc zero))) = bin_2 lenient
-table lenient (Bin (suc (suc (suc zero)))) = bin_3 lenient
-table lenient (Bin (suc (suc (suc (suc zero))))) = bin_4 lenient
-table lenient (Bin (suc (suc (suc (suc (suc zero)))))) = bin_5 lenient
-table lenient (Bin (suc (suc (suc (suc (suc (suc n))))))) = bin_strong n lenient
+abbrev Fits : Bool → Symbol → Type 0
+Fits lenient x = IsTable Sight Face Symbol Sort (rule lenient) heads empties tails x
+
+abbrev fits : Bool → Symbol → Bool
+fits lenient x = is_table Sight Face Symbol Sort (rule lenient) heads empties tails each_sight x
+
+found : (lenient : Bool) (x : Symbol) → fits lenient x ≡ true → Fits lenient x
+found lenient = table_checked Sight Face Symbol Sort (rule lenient) heads empties tails each_sight at_each_sight
+
+-- what the tables say of a symbol is found by computing
+table : (lenient : Bool) (x : Symbol) → Fits lenient x
+unfolding same_kind
+table lenient File = found lenient File refl
+table lenient (Some' Decls) = found lenient (Some' Decls) refl
+table lenient (Some' Members) = found lenient (Some' Members) refl
+table lenient (Some' Items) = found lenient (Some' Items) refl
+table lenient (Some' Requirements) = found lenient (Some' Requirements) refl
+table lenient (Rest Decls) = found lenient (Rest Decls) refl
+table lenient (Rest Members) = found lenient (Rest Members) refl
+table lenient (Rest Items) = found lenient (Rest Items) refl
+table lenient (Rest Requirements) = found lenient (Rest Requirements) refl
+table lenient (Item Decls) = found lenient (Item Decls) refl
+table lenient (Item Members) = found lenient (Item Members) refl
+table lenient (Item Items) = found lenient (Item Items) refl
+table lenient (Item Requirements) = found lenient (Item Requirements) refl
+table lenient Param = found lenient Param refl
+table lenient Case = found lenient Case refl
+table lenient Payload = found lenient Payload refl
+table lenient Type' = found lenient Type' refl
+table lenient Base = found lenient Base refl
+table lenient Block = found lenient Block refl
+table lenient (Sbody InBlock) = found lenient (Sbody InBlock) refl
+table lenient (Stmts InBlock) = found lenient (Stmts InBlock) refl
+table lenient (AfterStmt InBlock Open) = found lenient (AfterStmt InBlock Open) refl
+table lenient (AfterStmt InBlock Closed) = found lenient (AfterStmt InBlock Closed) refl
+table lenient (AfterReturn InBlock) = found lenient (AfterReturn InBlock) refl
+table lenient (Sbody InArm) = found lenient (Sbody InArm) refl
+table lenient (Stmts InArm) = found lenient (Stmts InArm) refl
+table lenient (AfterStmt InArm Open) = found lenient (AfterStmt InArm Open) refl
+table lenient (AfterStmt InArm Closed) = found lenient (AfterStmt InArm Closed) refl
+table lenient (AfterReturn InArm) = found lenient (AfterReturn InArm) refl
+table lenient (Stmt' Open) = found lenient (Stmt' Open) refl
+table lenient (Stmt' Closed) = found lenient (Stmt' Closed) refl
+table lenient If = found lenient If refl
+table lenient Arms = found lenient Arms refl
+table lenient Cond = found lenient Cond refl
+table lenient Pat = found lenient Pat refl
+table lenient Cpat = found lenient Cpat refl
+table lenient Expr = found lenient Expr refl
+table lenient Tern = found lenient Tern refl
+table lenient Prefix = found lenient Prefix refl
+table lenient Post = found lenient Post refl
+table lenient Form = found lenient Form refl
+table lenient Arg = found lenient Arg refl
+table lenient Prim = found lenient Prim refl
+table lenient Elements = found lenient Elements refl
+table false (Bin zero) = found false (Bin zero) refl
+table true (Bin zero) = found true (Bin zero) refl
+table false (Bin (suc zero)) = found false (Bin (suc zero)) refl
+table true (Bin (suc zero)) = found true (Bin (suc zero)) refl
+table false (Bin (suc (suc zero))) = found false (Bin (suc (suc zero))) refl
+table true (Bin (suc (suc zero))) = found true (Bin (suc (suc zero))) refl
+table false (Bin (suc (suc (suc zero)))) = found false (Bin (suc (suc (suc zero)))) refl
+table true (Bin (suc (suc (suc zero)))) = found true (Bin (suc (suc (suc zero)))) refl
+table false (Bin (suc (suc (suc (suc zero))))) = found false (Bin (suc (suc (suc (suc zero))))) refl
+table true (Bin (suc (suc (suc (suc zero))))) = found true (Bin (suc (suc (suc (suc zero))))) refl
+table false (Bin (suc (suc (suc (suc (suc zero)))))) = found false (Bin (suc (suc (suc (suc (suc zero)))))) refl
+table true (Bin (suc (suc (suc (suc (suc zero)))))) = found true (Bin (suc (suc (suc (suc (suc zero)))))) refl
+table lenient (Bin (suc (suc (suc (suc (suc (suc n))))))) = found lenient (Bin (suc (suc (suc (suc (suc (suc n))))))) refl
 
 never : {A : Type 0} → false ≡ true → A
 never e = absurd (cc)
@@ -112,7 +130,7 @@ low Prim = lit< tt
 low Elements = lit< tt
 low (Bin n) = omega arith
 
-leads : (lenient : Bool) (x : Symbol) → Leads Sighted Face Symbol Sort face_of (rule lenient) heads empties tails rank (rule lenient x) (rank x)
+leads : (lenient : Bool) (x : Symbol) → Leads Sight Face Symbol Sort (rule lenient) heads empties tails rank (rule lenient x) (rank x)
 leads lenient File = (lit< tt, (λ _. tt))
 leads lenient (Some' Decls) = (lit< tt, never)
 leads lenient (Some' Members) = (lit< tt, never)
@@ -166,5 +184,5 @@ leads lenient (Bin (suc (suc (suc (suc zero))))) = (lit< tt, never)
 leads lenient (Bin (suc (suc (suc (suc (suc zero)))))) = (lit< tt, never)
 leads lenient (Bin (suc (suc (suc (suc (suc (suc n))))))) = omega arith
 
-pub is_decided : (lenient : Bool) → IsDecided Sighted Face Symbol Sort face_of (rule lenient) heads empties tails rank width
+pub is_decided : (lenient : Bool) → IsDecided Sight Face Symbol Sort (rule lenient) heads empties tails rank width
 is_decided lenient = record { table = table lenient; low = low; leads = leads lenient }

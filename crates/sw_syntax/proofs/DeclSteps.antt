@@ -11,14 +11,15 @@ use Rattle.sw_tree.specs.declared.decl.Decl.TheVariants as decl
 use Rattle.sw_tree.specs.declared.decl.Heading.{Heading}
 use Rattle.sw_tree.specs.declared.decl.Modifier.{Modifier}
 use Rattle.sw_tree.specs.declared.decl.Parameter.{Parameter}
-use Rattle.sw_syntax.specs.Tokens.{Sighted, Face, face_of}
+use Rattle.sw_syntax.specs.declared.class.Sight.{Sight}
+use Rattle.sw_syntax.specs.Tokens.{Sighted, Face}
 use Rattle.sw_syntax.specs.Tests.{is, is_name, is_modifier, is_actor}
 use Rattle.sw_syntax.specs.Values.{or_none, is_some, name_of}
 use Rattle.sw_syntax.specs.Forms.{modifier_of}
 use Rattle.sw_syntax.specs.Symbols.{Listed, Decls, Members, Items, Requirements, File, Item, Type', Block, ItemTree}
 use Rattle.sw_syntax.specs.Parts.{P, ◌·◌, tok, place, name, present, behind, some, in_braces, whole_type}
 use Rattle.sw_syntax.specs.Grammar.{list_of, mods, heading, params, signature, modified_decl}
-use Rattle.sw_syntax.specs.Meaning.{read, read_part, Takes}
+use Rattle.sw_syntax.specs.Answering.{read, read_part, Takes}
 use Rattle.sw_syntax.specs.Lists.{items_from}
 use Rattle.sw_syntax.specs.Members.{item_block, mods_from, typealias_part, decl_from, heading_from, signature_from, conformances, more_names, flag_part, mark_part, result_part, params_part}
 use Rattle.sw_syntax.proofs.Steps.{step, bind_assoc, bind_same, chosen, fold_end, fold_more}
@@ -27,10 +28,10 @@ use Rattle.sw_syntax.proofs.BodySteps.{same_out, items_start}
 
 -- ---- files and blocks of items
 
-pub file_items : (lenient : Bool) → (d l c : ℕ) (ts : List Sighted) → read lenient File d l c ts ≡ (items_from lenient Decls d l c [] ts >>= (λ xs c1 r1. one face_of (is k.End) c1 r1 >>= (λ _ c2 r2. got (record { decls = xs }) c2 r2)))
+pub file_items : (lenient : Bool) → (d l c : ℕ) (ts : List Sighted) → read lenient File d l c ts ≡ (items_from lenient Decls d l c [] ts >>= (λ xs c1 r1. one (is k.End) c1 r1 >>= (λ _ c2 r2. got (record { decls = xs }) c2 r2)))
 file_items lenient d l c ts = step lenient File d l c ts
     ∙ both_on lenient (list_of Decls) (tok k.End) d l c ts _
-    ∙ ap (λ o. o >>= (λ xs c1 r1. one face_of (is k.End) c1 r1 >>= (λ _ c2 r2. got (record { decls = xs }) c2 r2))) (items_start lenient Decls d l c ts)
+    ∙ ap (λ o. o >>= (λ xs c1 r1. one (is k.End) c1 r1 >>= (λ _ c2 r2. got (record { decls = xs }) c2 r2))) (items_start lenient Decls d l c ts)
 
 pub item_block_none : (lenient : Bool) → (kind : Listed) (d l c : ℕ) (ts : List Sighted) → at_first (is k.LeftBrace) ts ≡ false → item_block lenient kind d l c ts ≡ bad stuck ts
 unfolding item_block
@@ -41,10 +42,10 @@ unfolding item_block
 item_block_deep lenient kind d l c ts h z = braces_deep lenient (list_of kind) d l c ts h z
 
 pub item_block_open : (lenient : Bool) → (kind : Listed) (d l c : ℕ) (ts : List Sighted) (f : Face) (r : List Sighted) → (d ≡ 0 → ⊥) → Takes (is k.LeftBrace) ts f r
-    → item_block lenient kind d l c ts ≡ (items_from lenient kind (d - 1) l c [] r >>= (λ xs c1 r1. one face_of (is k.RightBrace) c1 r1 >>= (λ _ c2 r2. got xs c2 r2)))
+    → item_block lenient kind d l c ts ≡ (items_from lenient kind (d - 1) l c [] r >>= (λ xs c1 r1. one (is k.RightBrace) c1 r1 >>= (λ _ c2 r2. got xs c2 r2)))
 unfolding item_block
 item_block_open lenient kind d l c ts f r z takes = braces_open lenient (list_of kind) d l c ts f r z takes
-    ∙ ap (λ o. o >>= (λ xs c1 r1. one face_of (is k.RightBrace) c1 r1 >>= (λ _ c2 r2. got xs c2 r2))) (items_start lenient kind (d - 1) l c r)
+    ∙ ap (λ o. o >>= (λ xs c1 r1. one (is k.RightBrace) c1 r1 >>= (λ _ c2 r2. got xs c2 r2))) (items_start lenient kind (d - 1) l c r)
 
 -- ---- modifiers
 
@@ -95,14 +96,14 @@ unfolding result_part
 result_some lenient d l c ts f r h takes = maybe_past lenient (is k.Arrow) whole_type d l c ts f r h takes ∙ limited_on lenient (g.sym Type') d l c r _
 
 pub typealias_step : (lenient : Bool) → (d l c : ℕ) (ts : List Sighted)
-    → typealias_part lenient d l c ts ≡ (one face_of (is k.Typealias) c ts >>= (λ f c1 r1. one face_of is_name c1 r1 >>= (λ n c2 r2. one face_of (is k.Assign) c2 r2 >>= (λ _ c3 r3. read lenient Type' d l l r3 >>= (λ t _ r4.
+    → typealias_part lenient d l c ts ≡ (one (is k.Typealias) c ts >>= (λ f c1 r1. one is_name c1 r1 >>= (λ n c2 r2. one (is k.Assign) c2 r2 >>= (λ _ c3 r3. read lenient Type' d l l r3 >>= (λ t _ r4.
     got (record { span = f.span; name = name_of n; target = t }) c3 r4)))))
 unfolding typealias_part
 typealias_step lenient d l c ts = both_on lenient (place k.Typealias) (name · behind (tok k.Assign) whole_type) d l c ts _
     ∙ place_on lenient k.Typealias d l c ts _
-    ∙ bind_same (one face_of (is k.Typealias) c ts) _ _ (λ f c1 r1. both_on lenient name (behind (tok k.Assign) whole_type) d l c1 r1 _
+    ∙ bind_same (one (is k.Typealias) c ts) _ _ (λ f c1 r1. both_on lenient name (behind (tok k.Assign) whole_type) d l c1 r1 _
     ∙ name_on lenient d l c1 r1 _
-    ∙ bind_same (one face_of is_name c1 r1) _ _ (λ n c2 r2. after_mark_type lenient k.Assign d l c2 r2 _))
+    ∙ bind_same (one is_name c1 r1) _ _ (λ n c2 r2. after_mark_type lenient k.Assign d l c2 r2 _))
 
 -- ---- names behind `:`
 
@@ -111,7 +112,7 @@ unfolding conformances
 conformances_none lenient d l c ts h = absent_on lenient (behind (tok k.Colon) (some name)) d l c ts (λ names c' r. got (or_none names) c' r) h
 
 pub conformances_some : (lenient : Bool) → (d l c : ℕ) (ts : List Sighted) (f : Face) (r : List Sighted) → at_first (is k.Colon) ts ≡ true → Takes (is k.Colon) ts f r
-    → conformances lenient d l c ts ≡ (one face_of is_name c r >>= (λ n c' r'. more_names lenient d l c' (name_of n ∷ []) r'))
+    → conformances lenient d l c ts ≡ (one is_name c r >>= (λ n c' r'. more_names lenient d l c' (name_of n ∷ []) r'))
 unfolding conformances
 conformances_some lenient d l c ts f r h takes = there_on lenient (behind (tok k.Colon) (some name)) d l c ts (λ names c' r. got (or_none names) c' r) h
     ∙ past_on lenient (is k.Colon) (some name) d l c ts f r _ takes
@@ -123,18 +124,18 @@ pub names_end : (lenient : Bool) → (d l c : ℕ) (xs : List Name) (ts : List S
 names_end lenient d l c xs ts h = more_end lenient name tt d l c xs ts h
 
 pub names_more : (lenient : Bool) → (d l c : ℕ) (xs : List Name) (ts : List Sighted) (f : Face) (r : List Sighted) → at_first (is k.Comma) ts ≡ true → Takes (is k.Comma) ts f r
-    → more_names lenient d l c xs ts ≡ (one face_of is_name c r >>= (λ n c' r'. more_names lenient d l c' (xs ++ name_of n ∷ []) r'))
+    → more_names lenient d l c xs ts ≡ (one is_name c r >>= (λ n c' r'. more_names lenient d l c' (xs ++ name_of n ∷ []) r'))
 names_more lenient d l c xs ts f r h takes = more_more lenient name tt d l c xs ts f r h takes ∙ name_on lenient d l c r _
 
 -- ---- headings and signatures
 
 pub heading_step : (lenient : Bool) → (d l c : ℕ) (modifiers : List Modifier) (ts : List Sighted)
-    → heading_from lenient d l c modifiers ts ≡ (one face_of is_name c ts >>= (λ n c1 r1. conformances lenient d l c1 r1 >>= (λ names c2 r2. got (record { modifiers = modifiers; name = name_of n; conformances = names }) c2 r2)))
+    → heading_from lenient d l c modifiers ts ≡ (one is_name c ts >>= (λ n c1 r1. conformances lenient d l c1 r1 >>= (λ names c2 r2. got (record { modifiers = modifiers; name = name_of n; conformances = names }) c2 r2)))
 unfolding heading_from conformances
 heading_step lenient d l c modifiers ts = gives_on lenient (λ x modifiers. record { modifiers = modifiers; name = x.0; conformances = or_none x.1 }) (name · g.maybe (behind (tok k.Colon) (some name))) d l c ts _
     ∙ both_on lenient name (g.maybe (behind (tok k.Colon) (some name))) d l c ts _
     ∙ name_on lenient d l c ts _
-    ∙ bind_same (one face_of is_name c ts) _ _ (λ n c1 r1. sym (bind_assoc (read_part lenient (g.maybe (behind (tok k.Colon) (some name))) d l c1 r1) _ _))
+    ∙ bind_same (one is_name c ts) _ _ (λ n c1 r1. sym (bind_assoc (read_part lenient (g.maybe (behind (tok k.Colon) (some name))) d l c1 r1) _ _))
 
 abbrev result : P (Option TypeTree)
 result = g.maybe (behind (tok k.Arrow) whole_type)
@@ -143,22 +144,22 @@ abbrev signed : P (Name × (List Parameter × (Bool × (Bool × Option TypeTree)
 signed = name · params · present (tok k.Async) · present (tok k.Throws) · result
 
 pub signature_step : (lenient : Bool) → (d l c : ℕ) (modifiers : List Modifier) (ts : List Sighted)
-    → signature_from lenient d l c modifiers ts ≡ (one face_of (is k.Func) c ts >>= (λ _ c0 r0. one face_of is_name c0 r0 >>= (λ n c1 r1. params_part lenient d l c1 r1 >>= (λ ps c2 r2. flag_part lenient k.Async d l c2 r2 >>= (λ a c3 r3. flag_part lenient k.Throws d l c3 r3 >>= (λ t c4 r4. result_part lenient d l c4 r4 >>= (λ y c5 r5.
+    → signature_from lenient d l c modifiers ts ≡ (one (is k.Func) c ts >>= (λ _ c0 r0. one is_name c0 r0 >>= (λ n c1 r1. params_part lenient d l c1 r1 >>= (λ ps c2 r2. flag_part lenient k.Async d l c2 r2 >>= (λ a c3 r3. flag_part lenient k.Throws d l c3 r3 >>= (λ t c4 r4. result_part lenient d l c4 r4 >>= (λ y c5 r5.
     got (record { modifiers = modifiers; name = name_of n; type_parameters = []; parameters = ps; is_async = a; throws = t; result = y }) c5 r5)))))))
 unfolding signature_from params_part flag_part result_part
 signature_step lenient d l c modifiers ts =
     gives_on lenient (λ x modifiers. record { modifiers = modifiers; name = x.0; type_parameters = []; parameters = x.1.0; is_async = x.1.1.0; throws = x.1.1.1.0; result = x.1.1.1.1 }) (behind (tok k.Func) signed) d l c ts _
     ∙ behind_on lenient (tok k.Func) signed d l c ts _
-    ∙ bind_same (one face_of (is k.Func) c ts) _ _ (λ _ c0 r0. both_on lenient name (params · present (tok k.Async) · present (tok k.Throws) · result) d l c0 r0 _
+    ∙ bind_same (one (is k.Func) c ts) _ _ (λ _ c0 r0. both_on lenient name (params · present (tok k.Async) · present (tok k.Throws) · result) d l c0 r0 _
     ∙ name_on lenient d l c0 r0 _
-    ∙ bind_same (one face_of is_name c0 r0) _ _ (λ n c1 r1. both_on lenient params (present (tok k.Async) · present (tok k.Throws) · result) d l c1 r1 _
+    ∙ bind_same (one is_name c0 r0) _ _ (λ n c1 r1. both_on lenient params (present (tok k.Async) · present (tok k.Throws) · result) d l c1 r1 _
     ∙ bind_same (params_part lenient d l c1 r1) _ _ (λ ps c2 r2. both_on lenient (present (tok k.Async)) (present (tok k.Throws) · result) d l c2 r2 _
     ∙ bind_same (flag_part lenient k.Async d l c2 r2) _ _ (λ a c3 r3. both_on lenient (present (tok k.Throws)) result d l c3 r3 _))))
 
 -- ---- declarations
 
 pub decl_import : (lenient : Bool) → (d l c : ℕ) (ts : List Sighted) (f : Face) (r : List Sighted) → at_first (is k.Import) ts ≡ true → Takes (is k.Import) ts f r
-    → read lenient (Item Decls) d l c ts ≡ (one face_of is_name c r >>= (λ n c' r'. got (decl.Import f.span (name_of n)) c' r'))
+    → read lenient (Item Decls) d l c ts ≡ (one is_name c r >>= (λ n c' r'. got (decl.Import f.span (name_of n)) c' r'))
 decl_import lenient d l c ts f r h takes = step lenient (Item Decls) d l c ts ∙ chosen (at_first (is k.Import) ts) true _ _ h
     ∙ placed_on lenient k.Import name d l c ts f r _ takes ∙ name_on lenient d l c r _
 
@@ -177,11 +178,11 @@ decl_modified lenient d l c ts h0 h1 = step lenient (Item Decls) d l c ts ∙ ch
 abbrev applied : List Modifier → (List Modifier → Decl) → ℕ → List Sighted → Out Sighted Decl
 applied modifiers x c r = got (x modifiers) c r
 
-abbrev nominal_part : (f : Sighted → Bool) (kind : Listed) → (Heading → List (ItemTree kind) → Decl) → P (List Modifier → Decl)
+abbrev nominal_part : (f : Sight → Bool) (kind : Listed) → (Heading → List (ItemTree kind) → Decl) → P (List Modifier → Decl)
 nominal_part f kind make = g.gives (λ x modifiers. make (x.0 modifiers) x.1) (behind (g.mark f) (heading · in_braces (list_of kind)))
 
 -- a heading and the items between braces behind it
-nominal : (lenient : Bool) (f : Sighted → Bool) (kind : Listed) (make : Heading → List (ItemTree kind) → Decl) (d l c : ℕ) (modifiers : List Modifier) (ts : List Sighted) (x : Face) (r : List Sighted) → Takes f ts x r
+nominal : (lenient : Bool) (f : Sight → Bool) (kind : Listed) (make : Heading → List (ItemTree kind) → Decl) (d l c : ℕ) (modifiers : List Modifier) (ts : List Sighted) (x : Face) (r : List Sighted) → Takes f ts x r
     → (read_part lenient (nominal_part f kind make) d l c ts >>= applied modifiers)
     ≡ (heading_from lenient d l c modifiers r >>= (λ h c1 r1. item_block lenient kind d l c1 r1 >>= (λ xs c2 r2. got (make h xs) c2 r2)))
 unfolding heading_from item_block

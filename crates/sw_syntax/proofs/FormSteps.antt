@@ -7,13 +7,14 @@ use Rattle.sw_tree.specs.declared.expr.Name.{Name}
 use Rattle.sw_tree.specs.declared.expr.Expr.{Expr as ExprTree}
 use Rattle.sw_tree.specs.declared.expr.Expr.TheVariants as e
 use Rattle.sw_tree.specs.declared.expr.Argument.{Argument}
-use Rattle.sw_syntax.specs.Tokens.{Sighted, Face, face_of}
+use Rattle.sw_syntax.specs.declared.class.Sight.{Sight}
+use Rattle.sw_syntax.specs.Tokens.{Sighted, Face}
 use Rattle.sw_syntax.specs.Tests.{is, is_name, is_call, is_index, is_force, is_label, is_unlabelled, starts_expr}
 use Rattle.sw_syntax.specs.Values.{or_none, name_of, with_forms}
 use Rattle.sw_syntax.specs.Symbols.{Expr, Form, Arg}
 use Rattle.sw_syntax.specs.Parts.{P, ◌·◌, tok, name, behind, any}
 use Rattle.sw_syntax.specs.Tables.{heads, is_form}
-use Rattle.sw_syntax.specs.Meaning.{read, read_part, Takes}
+use Rattle.sw_syntax.specs.Answering.{read, read_part, Takes}
 use Rattle.sw_syntax.specs.Chains.{forms, arg_list, more_args}
 use Rattle.sw_syntax.proofs.Steps.{step, bind_assoc, chosen, counted, counted_full, opened, opened_full, first_left, first_right, fold_end, fold_more}
 
@@ -60,8 +61,8 @@ named lenient d l x f (bad why r) = refl
 named lenient d l x f spent = refl
 
 pub member_more : (lenient : Bool) → (d l c : ℕ) (x : ExprTree) (ts : List Sighted) (f : Face) (r : List Sighted) → at_first (is k.Dot) ts ≡ true → (c ≡ 0 → ⊥) → Takes (is k.Dot) ts f r
-    → forms lenient d l c x ts ≡ (one face_of is_name (c - 1) r >>= (λ n c' r'. forms lenient d l c' (e.Member x (name_of n)) r'))
-member_more lenient d l c x ts f r h z takes = member_step lenient d l c x ts h ∙ ap (member_of lenient d l x) (counted lenient (is k.Dot) d l c ts z ∙ takes (c - 1)) ∙ named lenient d l x f (one face_of is_name (c - 1) r)
+    → forms lenient d l c x ts ≡ (one is_name (c - 1) r >>= (λ n c' r'. forms lenient d l c' (e.Member x (name_of n)) r'))
+member_more lenient d l c x ts f r h z takes = member_step lenient d l c x ts h ∙ ap (member_of lenient d l x) (counted lenient (is k.Dot) d l c ts z ∙ takes (c - 1)) ∙ named lenient d l x f (one is_name (c - 1) r)
 
 -- ---- calls
 
@@ -78,7 +79,7 @@ pub call_deep : (lenient : Bool) → (d l c : ℕ) (x : ExprTree) (ts : List Sig
 call_deep lenient d l c x ts h0 h z = call_step lenient d l c x ts h0 h ∙ ap (called lenient d l x) (opened_full lenient call d l c ts z h)
 
 abbrev counted_call : (lenient : Bool) → ℕ → ℕ → Out Sighted Face → Out Sighted (Face × (List Argument × Face))
-counted_call lenient d l o = o >>= (λ f c r. (arg_list lenient d l c r >>= (λ xs c' r'. one face_of (is k.RightParen) c' r' >>= (λ q c'' r''. got (xs, q) c'' r''))) >>= (λ w c' r'. got (f, w) c' r'))
+counted_call lenient d l o = o >>= (λ f c r. (arg_list lenient d l c r >>= (λ xs c' r'. one (is k.RightParen) c' r' >>= (λ q c'' r''. got (xs, q) c'' r''))) >>= (λ w c' r'. got (f, w) c' r'))
 
 call_open : (lenient : Bool) → (d l c : ℕ) (x : ExprTree) (ts : List Sighted) → at_first (is k.Dot) ts ≡ false → at_first is_call ts ≡ true → (d ≡ 0 → ⊥)
     → forms lenient d l c x ts ≡ called lenient d l x (counted_call lenient (d - 1) l (read_part lenient (g.counts (g.mark is_call)) (d - 1) l c ts))
@@ -100,10 +101,10 @@ call_shape lenient d l x f (bad why r) q = refl
 call_shape lenient d l x f spent q = refl
 
 pub call_more : (lenient : Bool) → (d l c : ℕ) (x : ExprTree) (ts : List Sighted) (f : Face) (r : List Sighted) → at_first (is k.Dot) ts ≡ false → at_first is_call ts ≡ true → (d ≡ 0 → ⊥) → (c ≡ 0 → ⊥) → Takes is_call ts f r
-    → forms lenient d l c x ts ≡ (arg_list lenient (d - 1) l (c - 1) r >>= (λ xs c' r'. one face_of (is k.RightParen) c' r' >>= (λ _ c'' r''. forms lenient d l c'' (e.Call x (f.span, xs)) r'')))
+    → forms lenient d l c x ts ≡ (arg_list lenient (d - 1) l (c - 1) r >>= (λ xs c' r'. one (is k.RightParen) c' r' >>= (λ _ c'' r''. forms lenient d l c'' (e.Call x (f.span, xs)) r'')))
 call_more lenient d l c x ts f r h0 h z z' takes = call_open lenient d l c x ts h0 h z
     ∙ ap (λ o. called lenient d l x (counted_call lenient (d - 1) l o)) (counted lenient is_call (d - 1) l c ts z' ∙ takes (c - 1))
-    ∙ call_shape lenient d l x f (arg_list lenient (d - 1) l (c - 1) r) (λ c r. one face_of (is k.RightParen) c r)
+    ∙ call_shape lenient d l x f (arg_list lenient (d - 1) l (c - 1) r) (λ c r. one (is k.RightParen) c r)
 
 -- ---- indices
 
@@ -121,7 +122,7 @@ pub index_deep : (lenient : Bool) → (d l c : ℕ) (x : ExprTree) (ts : List Si
 index_deep lenient d l c x ts h0 h1 h z = index_step lenient d l c x ts h0 h1 h ∙ ap (indexed lenient d l x) (opened_full lenient index d l c ts z h)
 
 abbrev counted_index : (lenient : Bool) → ℕ → ℕ → Out Sighted Face → Out Sighted (Face × (ExprTree × Face))
-counted_index lenient d l o = o >>= (λ f c r. (read lenient Expr d l c r >>= (λ y c' r'. one face_of (is k.RightBracket) c' r' >>= (λ q c'' r''. got (y, q) c'' r''))) >>= (λ w c' r'. got (f, w) c' r'))
+counted_index lenient d l o = o >>= (λ f c r. (read lenient Expr d l c r >>= (λ y c' r'. one (is k.RightBracket) c' r' >>= (λ q c'' r''. got (y, q) c'' r''))) >>= (λ w c' r'. got (f, w) c' r'))
 
 index_open : (lenient : Bool) → (d l c : ℕ) (x : ExprTree) (ts : List Sighted) → at_first (is k.Dot) ts ≡ false → at_first is_call ts ≡ false → at_first is_index ts ≡ true → (d ≡ 0 → ⊥)
     → forms lenient d l c x ts ≡ indexed lenient d l x (counted_index lenient (d - 1) l (read_part lenient (g.counts (g.mark is_index)) (d - 1) l c ts))
@@ -142,10 +143,10 @@ index_shape lenient d l x f (bad why r) q = refl
 index_shape lenient d l x f spent q = refl
 
 pub index_more : (lenient : Bool) → (d l c : ℕ) (x : ExprTree) (ts : List Sighted) (f : Face) (r : List Sighted) → at_first (is k.Dot) ts ≡ false → at_first is_call ts ≡ false → at_first is_index ts ≡ true → (d ≡ 0 → ⊥) → (c ≡ 0 → ⊥) → Takes is_index ts f r
-    → forms lenient d l c x ts ≡ (read lenient Expr (d - 1) l (c - 1) r >>= (λ y c' r'. one face_of (is k.RightBracket) c' r' >>= (λ _ c'' r''. forms lenient d l c'' (e.Index x (f.span, y)) r'')))
+    → forms lenient d l c x ts ≡ (read lenient Expr (d - 1) l (c - 1) r >>= (λ y c' r'. one (is k.RightBracket) c' r' >>= (λ _ c'' r''. forms lenient d l c'' (e.Index x (f.span, y)) r'')))
 index_more lenient d l c x ts f r h0 h1 h z z' takes = index_open lenient d l c x ts h0 h1 h z
     ∙ ap (λ o. indexed lenient d l x (counted_index lenient (d - 1) l o)) (counted lenient is_index (d - 1) l c ts z' ∙ takes (c - 1))
-    ∙ index_shape lenient d l x f (read lenient Expr (d - 1) l (c - 1) r) (λ c r. one face_of (is k.RightBracket) c r)
+    ∙ index_shape lenient d l x f (read lenient Expr (d - 1) l (c - 1) r) (λ c r. one (is k.RightBracket) c r)
 
 -- ---- `!`
 
@@ -165,11 +166,11 @@ force_more lenient d l c x ts f r h0 h1 h2 h z takes = force_step lenient d l c 
 
 -- `!`, where a form begins and none of the others does
 pub force_or_none : (lenient : Bool) (d l c : ℕ) (x : ExprTree) (ts : List Sighted) → at_first is_form ts ≡ true → at_first (is k.Dot) ts ≡ false → at_first is_call ts ≡ false → at_first is_index ts ≡ false → (c ≡ 0 → ⊥)
-    → forms lenient d l c x ts ≡ (one face_of is_force (c - 1) ts >>= (λ f c' r. forms lenient d l c' (e.Force x f.span) r))
+    → forms lenient d l c x ts ≡ (one is_force (c - 1) ts >>= (λ f c' r. forms lenient d l c' (e.Force x f.span) r))
 force_or_none lenient d l c x ts h h0 h1 h2 z = forms_more lenient d l c x ts h
     ∙ ap (back lenient d l x) (step lenient Form d l c ts ∙ chosen (at_first (is k.Dot) ts) false _ _ h0 ∙ chosen (at_first is_call ts) false _ _ h1 ∙ chosen (at_first is_index ts) false _ _ h2)
     ∙ ap (forced lenient d l x) (counted lenient is_force d l c ts z)
-    ∙ bind_assoc (one face_of is_force (c - 1) ts) (λ f c2 r2. got (λ base. e.Force base f.span) c2 r2) (λ form c' r. forms lenient d l c' (form x) r)
+    ∙ bind_assoc (one is_force (c - 1) ts) (λ f c2 r2. got (λ base. e.Force base f.span) c2 r2) (λ form c' r. forms lenient d l c' (form x) r)
 
 left_over : (a b c d : Bool) → (a || (b || (c || d))) ≡ true → a ≡ false → b ≡ false → c ≡ false → d ≡ true
 left_over true b c d h x y z = absurd cc
@@ -179,7 +180,7 @@ left_over false false false d h x y z = h
 
 is_force_left : (ts : List Sighted) → at_first is_form ts ≡ true → at_first (is k.Dot) ts ≡ false → at_first is_call ts ≡ false → at_first is_index ts ≡ false → at_first is_force ts ≡ true
 is_force_left [] h x y z = absurd cc
-is_force_left (t ∷ ts) h x y z = left_over (is k.Dot t) (is_call t) (is_index t) (is_force t) h x y z
+is_force_left (t ∷ ts) h x y z = left_over (is k.Dot t.sight) (is_call t.sight) (is_index t.sight) (is_force t.sight) h x y z
 
 -- a form for which there is no room
 pub forms_full : (lenient : Bool) (d l c : ℕ) (x : ExprTree) (ts : List Sighted) → at_first is_form ts ≡ true → c ≡ 0 → forms lenient d l c x ts ≡ bad full ts
@@ -214,11 +215,11 @@ abbrev pub bare_arg : ExprTree → Argument
 bare_arg x = record { label = None; value = x }
 
 pub arg_labelled : (lenient : Bool) → (d l c : ℕ) (ts : List Sighted) (f : Face) (r : List Sighted) → at_first is_label ts ≡ true → Takes is_label ts f r
-    → read lenient Arg d l c ts ≡ (one face_of (is k.Colon) c r >>= (λ _ c1 r1. read lenient Expr d l c1 r1 >>= (λ x c2 r2. got (labelled_arg f x) c2 r2)))
-arg_labelled lenient d l c ts f r h takes = step lenient Arg d l c ts ∙ chosen (at_first is_label ts) true _ _ h ∙ ap labelled (takes c) ∙ shape (one face_of (is k.Colon) c r) (λ c r. read lenient Expr d l c r)
+    → read lenient Arg d l c ts ≡ (one (is k.Colon) c r >>= (λ _ c1 r1. read lenient Expr d l c1 r1 >>= (λ x c2 r2. got (labelled_arg f x) c2 r2)))
+arg_labelled lenient d l c ts f r h takes = step lenient Arg d l c ts ∙ chosen (at_first is_label ts) true _ _ h ∙ ap labelled (takes c) ∙ shape (one (is k.Colon) c r) (λ c r. read lenient Expr d l c r)
   where
     labelled : Out Sighted Face → Out Sighted Argument
-    labelled o = (o >>= (λ f c r. ((one face_of (is k.Colon) c r >>= (λ q c' r'. read lenient Expr d l c' r' >>= (λ y c'' r''. got (q, y) c'' r''))) >>= (λ (z : Face × ExprTree) c' r'. got z.1 c' r')) >>= (λ y c' r'. got (f, y) c' r'))) >>= (λ (z : Face × ExprTree) c' r'. got (labelled_arg z.0 z.1) c' r')
+    labelled o = (o >>= (λ f c r. ((one (is k.Colon) c r >>= (λ q c' r'. read lenient Expr d l c' r' >>= (λ y c'' r''. got (q, y) c'' r''))) >>= (λ (z : Face × ExprTree) c' r'. got z.1 c' r')) >>= (λ y c' r'. got (f, y) c' r'))) >>= (λ (z : Face × ExprTree) c' r'. got (labelled_arg z.0 z.1) c' r')
 
     shape : (o : Out Sighted Face) (q : ℕ → List Sighted → Out Sighted ExprTree)
         → ((((o >>= (λ m c' r'. q c' r' >>= (λ y c'' r''. got (m, y) c'' r''))) >>= (λ (z : Face × ExprTree) c' r'. got z.1 c' r')) >>= (λ y c' r'. got (f, y) c' r')) >>= (λ (z : Face × ExprTree) c' r'. got (labelled_arg z.0 z.1) c' r'))
@@ -240,7 +241,7 @@ arg_none lenient d l c ts h h' = step lenient Arg d l c ts ∙ chosen (at_first 
 
 -- ---- lists of arguments
 
-abbrev starts_arg : Sighted → Bool
+abbrev starts_arg : Sight → Bool
 starts_arg t = is_label t || starts_expr t
 
 pub arg_list_none : (lenient : Bool) → (d l c : ℕ) (ts : List Sighted) → at_first (heads Arg) ts ≡ false → arg_list lenient d l c ts ≡ got [] c ts

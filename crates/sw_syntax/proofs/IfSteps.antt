@@ -7,14 +7,14 @@ use Rattle.sw_tree.specs.declared.stmt.Stmt.{Stmt}
 use Rattle.sw_tree.specs.declared.stmt.Branch.{Branch}
 use Rattle.sw_tree.specs.declared.stmt.Condition.{Condition}
 use Rattle.sw_tree.specs.declared.stmt.Condition.TheVariants as condition
-use Rattle.sw_syntax.specs.Tokens.{Sighted, Face, face_of}
+use Rattle.sw_syntax.specs.Tokens.{Sighted, Face}
 use Rattle.sw_syntax.specs.Tests.{is, is_name, is_let_or_var, is_else, is_else_if, starts_expr}
 use Rattle.sw_syntax.specs.Values.{name_of, binding_of}
 use Rattle.sw_syntax.specs.Forms.{else_if, else_block, branches_of}
 use Rattle.sw_syntax.specs.Symbols.{Block, If, Cond, Expr, Branches}
 use Rattle.sw_syntax.specs.Parts.{P, ◌·◌, tok, place, name, behind}
 use Rattle.sw_syntax.specs.Grammar.{initial, conds, branch}
-use Rattle.sw_syntax.specs.Meaning.{read, read_part, Takes}
+use Rattle.sw_syntax.specs.Answering.{read, read_part, Takes}
 use Rattle.sw_syntax.specs.Bodies.{cond_list, more_conds, branch_part, otherwise, with_others, branches_from, initial_part}
 use Rattle.sw_syntax.proofs.Steps.{step, bind_same, chosen, first_left, first_right, counted, counted_full}
 use Rattle.sw_syntax.proofs.PartSteps.{both_on, gives_on, limited_on, behind_on, past_on, name_on, there_on, absent_on, first_on, second_on, some_first, more_end, more_more, first_neither}
@@ -42,20 +42,20 @@ cond_bound : (lenient : Bool) → (d l c : ℕ) (ts : List Sighted) → at_first
 cond_bound lenient d l c ts h = step lenient Cond d l c ts ∙ chosen (at_first starts_expr ts) false _ _ h
 
 pub cond_bind : (lenient : Bool) → (d l c : ℕ) (ts : List Sighted) → at_first starts_expr ts ≡ false
-    → read lenient Cond d l c ts ≡ (one face_of is_let_or_var c ts >>= (λ f c1 r1. one face_of is_name c1 r1 >>= (λ n c2 r2. initial_part lenient d l c2 r2 >>= (λ x c3 r3. got (condition.Bind (binding_of f.kind) (name_of n) x) c3 r3))))
+    → read lenient Cond d l c ts ≡ (one is_let_or_var c ts >>= (λ f c1 r1. one is_name c1 r1 >>= (λ n c2 r2. initial_part lenient d l c2 r2 >>= (λ x c3 r3. got (condition.Bind (binding_of f.kind) (name_of n) x) c3 r3))))
 unfolding initial_part
 cond_bind lenient d l c ts h = cond_bound lenient d l c ts h
     ∙ both_on lenient (g.mark is_let_or_var) (name · g.maybe initial) d l c ts _
-    ∙ bind_same (one face_of is_let_or_var c ts) _ _ (λ f c1 r1. both_on lenient name (g.maybe initial) d l c1 r1 _ ∙ name_on lenient d l c1 r1 _)
+    ∙ bind_same (one is_let_or_var c ts) _ _ (λ f c1 r1. both_on lenient name (g.maybe initial) d l c1 r1 _ ∙ name_on lenient d l c1 r1 _)
 
 -- ---- branches
 
 pub branch_if : (lenient : Bool) → (d l c : ℕ) (ts : List Sighted)
-    → branch_part lenient d l c ts ≡ (one face_of (is k.If) c ts >>= (λ f c1 r1. cond_list lenient d l c1 r1 >>= (λ cs c2 r2. read lenient Block d l c2 r2 >>= (λ body c3 r3. got (record { span = f.span; conditions = cs; body = body }) c3 r3))))
+    → branch_part lenient d l c ts ≡ (one (is k.If) c ts >>= (λ f c1 r1. cond_list lenient d l c1 r1 >>= (λ cs c2 r2. read lenient Block d l c2 r2 >>= (λ body c3 r3. got (record { span = f.span; conditions = cs; body = body }) c3 r3))))
 unfolding branch_part cond_list
 branch_if lenient d l c ts = both_on lenient (place k.If) (conds · g.sym Block) d l c ts _
     ∙ gives_on lenient (λ f. f.span) (tok k.If) d l c ts _
-    ∙ bind_same (one face_of (is k.If) c ts) _ _ (λ f c1 r1. both_on lenient conds (g.sym Block) d l c1 r1 _)
+    ∙ bind_same (one (is k.If) c ts) _ _ (λ f c1 r1. both_on lenient conds (g.sym Block) d l c1 r1 _)
 
 abbrev option_branches : Type 0
 option_branches = Option (Branch → Branches)

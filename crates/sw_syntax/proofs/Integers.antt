@@ -9,7 +9,7 @@ use Rattle.sw_syntax.specs.declared.class.Class.{Class}
 use Rattle.sw_syntax.specs.declared.class.Class.TheVariants as class
 use Rattle.sw_syntax.specs.Tokens.{same_kind, class_of_name, class_in, is_next, touches_next, seen, sighted}
 use Rattle.sw_syntax.specs.Tests.{is, is_of}
-use Rattle.sw_syntax.specs.Sights.{behind_break, broken_at}
+use Rattle.sw_syntax.specs.Broken.{behind_break, broken_at}
 use Rattle.sw_syntax.specs.Reading.{IntegerFits, IntegersFit}
 
 abbrev is_integer : Class → Bool

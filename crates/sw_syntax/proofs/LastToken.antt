@@ -41,7 +41,7 @@ end_kind k.Question token behind e = absurd (clash _ e (either token.touches cla
 end_kind k.Minus token behind e = absurd (clash _ e (either (touches_next behind) (class.Is k.Minus) class.LooseMinus refl refl))
 end_kind kind token behind e = absurd (cc)
 
-end_seen : (token : Token) → token.kind ≡ k.End → is k.End (seen token []) ≡ true
+end_seen : (token : Token) → token.kind ≡ k.End → is k.End (seen token []).sight ≡ true
 unfolding same_kind
 end_seen token e = subst (λ kind. is_end (class_in kind token []) ≡ true) (sym e) refl
 
@@ -50,20 +50,20 @@ end_seen token e = subst (λ kind. is_end (class_in kind token []) ≡ true) (sy
 -- the tokens from a place on have an end among them
 pub has_end : (tokens : List Token) (at : ℕ) → EndsOnce tokens → at < length tokens → Free (is k.End) (drop at (sighted tokens)) → ⊥
 has_end [] at h l f = h
-has_end (token ∷ []) zero h l f = clash (is k.End (seen token [])) (end_seen token h.0) f.0
+has_end (token ∷ []) zero h l f = clash (is k.End (seen token []).sight) (end_seen token h.0) f.0
 has_end (token ∷ []) (suc at) h l f = absurd (omega (arith, l))
 has_end (token ∷ next ∷ tokens) zero h l f = has_end (next ∷ tokens) zero h.1 (omega arith) f.1
 has_end (token ∷ next ∷ tokens) (suc at) h l f = has_end (next ∷ tokens) at h.1 (omega (arith, l)) f
 
 -- nothing stands behind an end
-pub last_end : (tokens : List Token) (v rest : List Sighted) (t : Sighted) → EndsOnce tokens → sighted tokens ≡ v ++ t ∷ rest → is k.End t ≡ true → rest ≡ []
+pub last_end : (tokens : List Token) (v rest : List Sighted) (t : Sighted) → EndsOnce tokens → sighted tokens ≡ v ++ t ∷ rest → is k.End t.sight ≡ true → rest ≡ []
 last_end [] v rest t h e is_end = absurd h
 last_end (token ∷ []) [] rest t h e is_end = cc
 last_end (token ∷ []) (y ∷ []) rest t h e is_end = absurd (cc)
 last_end (token ∷ []) (y ∷ z ∷ v) rest t h e is_end = absurd (cc)
 last_end (token ∷ next ∷ tokens) [] rest t h e is_end =
     let same : t ≡ seen token (next ∷ tokens) = cc in
-    absurd (h.0 (end_kind token.kind token (next ∷ tokens) (subst (λ t. is k.End t ≡ true) same is_end)))
+    absurd (h.0 (end_kind token.kind token (next ∷ tokens) (subst (λ t. is k.End t.sight ≡ true) same is_end)))
 last_end (token ∷ next ∷ tokens) (y ∷ v) rest t h e is_end =
     let less : sighted (next ∷ tokens) ≡ v ++ t ∷ rest = cc in
     last_end (next ∷ tokens) v rest t h.1 less is_end

@@ -3,7 +3,8 @@ use Rattle.std.proofs.Common.{◌≡◌, ℕ, zero, suc, Bool, true, false, inl,
 use Rattle.sw_grammar.specs.Grammar as g
 use Rattle.sw_grammar.specs.Grammar.{Part, Room, Counted, Each, Then, Derives_by, Derives, Begins_by, Begins}
 use Rattle.sw_tree.specs.declared.expr.Expr.{Expr as ExprTree}
-use Rattle.sw_syntax.specs.Tokens.{Sighted, Face, face_of}
+use Rattle.sw_syntax.specs.declared.class.Sight.{Sight}
+use Rattle.sw_syntax.specs.Tokens.{Sighted, Face}
 use Rattle.sw_syntax.specs.Tests.{is_binary}
 use Rattle.sw_syntax.specs.Symbols.{Symbol, Sort, InBlock, InArm, File, Some', Rest, Item, Param, Case, Payload, Type', Base, Block, Sbody, Stmts, AfterStmt, AfterReturn, Stmt', If, Arms, Cond, Pat, Cpat, Expr, Tern, Bin, Prefix, Post, Form, Arg, Prim, Elements}
 use Rattle.sw_syntax.specs.Values.{to_left, to_right}
@@ -22,7 +23,7 @@ then_more D D' E E' goes h k c e u x (Some y) (v, w, m, eu, p, is, q) = (v, w, m
 
 -- ---- of two grammars, where each symbol's texts in the first are such in the second
 
-module _ (rule' rule'' : (s : Symbol) → Part Sighted Face Symbol Sort (Sort s)) where
+module _ (rule' rule'' : (s : Symbol) → Part Sight Face Symbol Sort (Sort s)) where
   abbrev Deriving : Type 1
   Deriving = (s : Symbol) → ℕ → ℕ → ℕ → ℕ → List Sighted → Sort s → Type 0
 
@@ -31,10 +32,10 @@ module _ (rule' rule'' : (s : Symbol) → Part Sighted Face Symbol Sort (Sort s)
 
   module _ (D D' : Deriving) (h : (s : Symbol) (d l c e : ℕ) (u : List Sighted) (x : Sort s) → D s d l c e u x → D' s d l c e u x) where
     abbrev Text : {A : Type 0} → P A → ℕ → ℕ → ℕ → ℕ → List Sighted → A → Type 0
-    Text a d l c e u x = Derives_by Sighted Face Symbol Sort face_of rule' D a d l c e u x
+    Text a d l c e u x = Derives_by Sight Face Symbol Sort rule' D a d l c e u x
 
     abbrev Text' : {A : Type 0} → P A → ℕ → ℕ → ℕ → ℕ → List Sighted → A → Type 0
-    Text' a d l c e u x = Derives_by Sighted Face Symbol Sort face_of rule'' D' a d l c e u x
+    Text' a d l c e u x = Derives_by Sight Face Symbol Sort rule'' D' a d l c e u x
 
     pub more : {A : Type 0} (a : P A) (d l c e : ℕ) (u : List Sighted) (x : A) → Text a d l c e u x → Text' a d l c e u x
     more (g.mark f) d l c e u x p = p
@@ -56,10 +57,10 @@ module _ (rule' rule'' : (s : Symbol) → Part Sighted Face Symbol Sort (Sort s)
 
     module _ (B B' : Beginning) (k : (s : Symbol) (d l c : ℕ) (u : List Sighted) → B s d l c u → B' s d l c u) where
       abbrev Front : {A : Type 0} → P A → ℕ → ℕ → ℕ → List Sighted → Type 0
-      Front a d l c u = Begins_by Sighted Face Symbol Sort face_of rule' D B a d l c u
+      Front a d l c u = Begins_by Sight Face Symbol Sort rule' D B a d l c u
 
       abbrev Front' : {A : Type 0} → P A → ℕ → ℕ → ℕ → List Sighted → Type 0
-      Front' a d l c u = Begins_by Sighted Face Symbol Sort face_of rule'' D' B' a d l c u
+      Front' a d l c u = Begins_by Sight Face Symbol Sort rule'' D' B' a d l c u
 
       pub more_begun : {A : Type 0} (a : P A) (d l c : ℕ) (u : List Sighted) → Front a d l c u → Front' a d l c u
       more_begun (g.mark f) d l c [] p = p
@@ -120,10 +121,10 @@ each_symbol Q same bin (Bin n) = bin n
 
 module _ (D D' : (s : Symbol) → ℕ → ℕ → ℕ → ℕ → List Sighted → Sort s → Type 0) (h : (s : Symbol) (d l c e : ℕ) (u : List Sighted) (x : Sort s) → D s d l c e u x → D' s d l c e u x) where
   abbrev Strict : {A : Type 0} → P A → ℕ → ℕ → ℕ → ℕ → List Sighted → A → Type 0
-  Strict a d l c e u x = Derives_by Sighted Face Symbol Sort face_of (rule false) D a d l c e u x
+  Strict a d l c e u x = Derives_by Sight Face Symbol Sort (rule false) D a d l c e u x
 
   abbrev Lenient : {A : Type 0} → P A → ℕ → ℕ → ℕ → ℕ → List Sighted → A → Type 0
-  Lenient a d l c e u x = Derives_by Sighted Face Symbol Sort face_of (rule true) D' a d l c e u x
+  Lenient a d l c e u x = Derives_by Sight Face Symbol Sort (rule true) D' a d l c e u x
 
   part : {A : Type 0} (a : P A) (d l c e : ℕ) (u : List Sighted) (x : A) → Strict a d l c e u x → Lenient a d l c e u x
   part = more (rule false) (rule true) D D' h
@@ -166,10 +167,10 @@ module _ (D D' : (s : Symbol) → ℕ → ℕ → ℕ → ℕ → List Sighted �
 
   module _ (B B' : (s : Symbol) → ℕ → ℕ → ℕ → List Sighted → Type 0) (k : (s : Symbol) (d l c : ℕ) (u : List Sighted) → B s d l c u → B' s d l c u) where
     abbrev StrictFront : {A : Type 0} → P A → ℕ → ℕ → ℕ → List Sighted → Type 0
-    StrictFront a d l c u = Begins_by Sighted Face Symbol Sort face_of (rule false) D B a d l c u
+    StrictFront a d l c u = Begins_by Sight Face Symbol Sort (rule false) D B a d l c u
 
     abbrev LenientFront : {A : Type 0} → P A → ℕ → ℕ → ℕ → List Sighted → Type 0
-    LenientFront a d l c u = Begins_by Sighted Face Symbol Sort face_of (rule true) D' B' a d l c u
+    LenientFront a d l c u = Begins_by Sight Face Symbol Sort (rule true) D' B' a d l c u
 
     front : {A : Type 0} (a : P A) (d l c : ℕ) (u : List Sighted) → StrictFront a d l c u → LenientFront a d l c u
     front = more_begun (rule false) (rule true) D D' h B B' k
@@ -215,10 +216,10 @@ module _ (D D' : (s : Symbol) → ℕ → ℕ → ℕ → ℕ → List Sighted �
 -- ---- by each height
 
 abbrev Dn : Bool → ℕ → (s : Symbol) → ℕ → ℕ → ℕ → ℕ → List Sighted → Sort s → Type 0
-Dn lenient n = Derives Sighted Face Symbol Sort face_of (rule lenient) n
+Dn lenient n = Derives Sight Face Symbol Sort (rule lenient) n
 
 abbrev Bn : Bool → ℕ → (s : Symbol) → ℕ → ℕ → ℕ → List Sighted → Type 0
-Bn lenient n = Begins Sighted Face Symbol Sort face_of (rule lenient) n
+Bn lenient n = Begins Sight Face Symbol Sort (rule lenient) n
 
 text_n : (n : ℕ) (s : Symbol) (d l c e : ℕ) (u : List Sighted) (x : Sort s) → Dn false n s d l c e u x → Dn true n s d l c e u x
 text_n zero s d l c e u x p = p

@@ -13,7 +13,7 @@ use Rattle.sw_lex.specs.Bytes.{Text}
 use Rattle.sw_lex.specs.Forms.{size_of}
 use Rattle.sw_lex.specs.Cut.{total}
 use Rattle.sw_lex.specs.Rules.{number, BreaksNone}
-use Rattle.sw_lex.specs.Tokens.{IsTextOf, token_at, beyond, AreTokens, end_place, start, CutsInto}
+use Rattle.sw_lex.specs.Tokens.{IsTextOf, token_at, beyond, AreTokens, end_place, place_at, start, CutsInto}
 use Rattle.sw_rules.specs.declared.Rule.TheVariants.{L4}
 use Rattle.sw_syntax.specs.Tokens.{same_kind, sighted, seen}
 use Rattle.sw_syntax.specs.Tests.{is}
@@ -68,5 +68,5 @@ pub lexed_fits : (source : Text) (tokens : List SourceToken) → CutsInto source
 lexed_fits source tokens cut none =
     tokens_fit (end_place source) start cut.whole.good source cut.whole.items tokens
     (λ before behind size e. at_most (number 0 (take size (drop (total before) source)))
-    (λ h. none L4 (total before) (cut.whole, size, record { before = before; behind = behind; split = e; ends = refl }, h)))
+    (λ h. none (record { rule = L4; span = place_at source (total before) }) (total before, (cut.whole, size, record { before = before; behind = behind; split = e; ends = refl }, h), refl)))
     cut.same

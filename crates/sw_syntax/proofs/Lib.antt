@@ -1,7 +1,4 @@
 mod Classes
-mod ExprTable
-mod StmtTable
-mod DeclTable
 pub mod Decides
 pub mod Law
 pub mod Lenient
@@ -26,3 +23,6 @@ pub mod TypeSteps
 pub mod DeclSteps
 pub mod MemberSteps
 pub mod Exits
+mod ByPlace
+mod PlaceLemmas
+mod RefusalLemmas

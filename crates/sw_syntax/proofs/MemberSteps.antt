@@ -19,7 +19,7 @@ use Rattle.sw_tree.specs.declared.decl.EnumItem.TheVariants as item
 use Rattle.sw_tree.specs.declared.decl.Requirement.TheVariants as requirement
 use Rattle.sw_tree.specs.declared.decl.Case.{Case as CaseTree}
 use Rattle.sw_tree.specs.declared.decl.Payload.{Payload as PayloadTree}
-use Rattle.sw_syntax.specs.Tokens.{Sighted, Face, face_of}
+use Rattle.sw_syntax.specs.Tokens.{Sighted, Face}
 use Rattle.sw_syntax.specs.Tests.{is, is_name, is_get, is_getter, is_no_getter, is_payload_label, is_bare_type, is_other_label}
 use Rattle.sw_syntax.specs.Values.{name_of}
 use Rattle.sw_syntax.specs.Forms.{or_empty, initial_var, computed_var, typed_var, or_untyped, stored_var, or_no_statement, own_or_other, other_label, Named}
@@ -27,7 +27,7 @@ use Rattle.sw_syntax.specs.Symbols.{Members, Items, Requirements, InBlock, Item,
 use Rattle.sw_syntax.specs.Parts.{P, ◌·◌, ◌∣◌, tok, place, name, present, behind, some, any, in_parens, in_braces, whole_expr, whole_type}
 use Rattle.sw_syntax.specs.Grammar.{annotation, initial, mods, params, signature, getter, modified_member}
 use Rattle.sw_syntax.specs.Tables.{heads, starts_stmt}
-use Rattle.sw_syntax.specs.Meaning.{read, read_part, Takes}
+use Rattle.sw_syntax.specs.Answering.{read, read_part, Takes}
 use Rattle.sw_syntax.specs.Bodies.{put, body_from, annotation_part, initial_part}
 use Rattle.sw_syntax.specs.Members.{mods_from, typealias_part, member_from, signature_from, flag_part, mark_part, params_part, param_list, more_params, param_names, var_from, typed_from, getter_part, accessor_part, get_block, case_list, more_cases, payload_part, payload_list, more_payloads}
 use Rattle.sw_syntax.proofs.Steps.{step, bind_assoc, bind_same, chosen, first_left, first_right}
@@ -45,7 +45,7 @@ unfolding params_part
 params_deep lenient d l c ts h z = parens_deep lenient (any (g.sym Param)) d l c ts h z
 
 pub params_open : (lenient : Bool) → (d l c : ℕ) (ts : List Sighted) (f : Face) (r : List Sighted) → (d ≡ 0 → ⊥) → Takes (is k.LeftParen) ts f r
-    → params_part lenient d l c ts ≡ (param_list lenient (d - 1) l c r >>= (λ xs c1 r1. one face_of (is k.RightParen) c1 r1 >>= (λ _ c2 r2. got xs c2 r2)))
+    → params_part lenient d l c ts ≡ (param_list lenient (d - 1) l c r >>= (λ xs c1 r1. one (is k.RightParen) c1 r1 >>= (λ _ c2 r2. got xs c2 r2)))
 unfolding params_part param_list
 params_open lenient d l c ts f r z takes = parens_open lenient (any (g.sym Param)) d l c ts f r z takes
 
@@ -74,13 +74,13 @@ abbrev param_type : P (Option Span × (TypeTree × Option Span))
 param_type = g.maybe (place k.Inout) · whole_type · g.maybe (place k.Ellipsis)
 
 pub param_step : (lenient : Bool) → (d l c : ℕ) (ts : List Sighted)
-    → read lenient Param d l c ts ≡ (param_names lenient d l c ts >>= (λ x c1 r1. one face_of (is k.Colon) c1 r1 >>= (λ _ c2 r2. mark_part lenient k.Inout d l c2 r2 >>= (λ i c3 r3. read lenient Type' d l l r3 >>= (λ t _ r4. mark_part lenient k.Ellipsis d l c3 r4 >>= (λ v c5 r5.
+    → read lenient Param d l c ts ≡ (param_names lenient d l c ts >>= (λ x c1 r1. one (is k.Colon) c1 r1 >>= (λ _ c2 r2. mark_part lenient k.Inout d l c2 r2 >>= (λ i c3 r3. read lenient Type' d l l r3 >>= (λ t _ r4. mark_part lenient k.Ellipsis d l c3 r4 >>= (λ v c5 r5.
     got (record { label = x.0; name = x.1; inout = i; declared = t; variadic = v }) c5 r5))))))
 unfolding param_names mark_part
 param_step lenient d l c ts = step lenient Param d l c ts
     ∙ both_on lenient (own_names ∣ other_names) (behind (tok k.Colon) param_type) d l c ts _
     ∙ bind_same (param_names lenient d l c ts) _ _ (λ x c1 r1. behind_on lenient (tok k.Colon) param_type d l c1 r1 _
-    ∙ bind_same (one face_of (is k.Colon) c1 r1) _ _ (λ _ c2 r2. both_on lenient (g.maybe (place k.Inout)) (whole_type · g.maybe (place k.Ellipsis)) d l c2 r2 _
+    ∙ bind_same (one (is k.Colon) c1 r1) _ _ (λ _ c2 r2. both_on lenient (g.maybe (place k.Inout)) (whole_type · g.maybe (place k.Ellipsis)) d l c2 r2 _
     ∙ bind_same (mark_part lenient k.Inout d l c2 r2) _ _ (λ i c3 r3. both_on lenient whole_type (g.maybe (place k.Ellipsis)) d l c3 r3 _
     ∙ limited_on lenient (g.sym Type') d l c3 r3 _)))
 
@@ -101,11 +101,11 @@ pub param_two : (lenient : Bool) → (d l c : ℕ) (ts : List Sighted) (f : Face
 param_two lenient d l c ts f r f' r' h takes h' takes' = own_step lenient d l c ts f r h takes ∙ there_on lenient name d l c r _ h' ∙ name_on lenient d l c r _ ∙ mark_on lenient is_name d l c r f' r' _ takes'
 
 pub param_other : (lenient : Bool) → (d l c : ℕ) (ts : List Sighted) → at_first is_name ts ≡ false
-    → param_names lenient d l c ts ≡ (one face_of is_other_label c ts >>= (λ f c1 r1. one face_of is_name c1 r1 >>= (λ n c2 r2. got (other_label f (name_of n)) c2 r2)))
+    → param_names lenient d l c ts ≡ (one is_other_label c ts >>= (λ f c1 r1. one is_name c1 r1 >>= (λ n c2 r2. got (other_label f (name_of n)) c2 r2)))
 unfolding param_names
 param_other lenient d l c ts h = chosen (at_first is_name ts) false _ _ h
     ∙ both_on lenient (g.mark is_other_label) name d l c ts _
-    ∙ bind_same (one face_of is_other_label c ts) _ _ (λ f c1 r1. name_on lenient d l c1 r1 _)
+    ∙ bind_same (one is_other_label c ts) _ _ (λ f c1 r1. name_on lenient d l c1 r1 _)
 
 -- ---- members
 
@@ -127,7 +127,7 @@ abbrev on_member : List Modifier → Out Sighted (List Modifier → Member) → 
 on_member modifiers o = o >>= applied modifiers
 
 pub member_let : (lenient : Bool) → (d l c : ℕ) (modifiers : List Modifier) (ts : List Sighted) (f : Face) (r : List Sighted) → at_first (is k.Let) ts ≡ true → Takes (is k.Let) ts f r
-    → member_from lenient d l c modifiers ts ≡ (one face_of is_name c r >>= (λ n c1 r1. annotation_part lenient d l c1 r1 >>= (λ t c2 r2. initial_part lenient d l c2 r2 >>= (λ x c3 r3.
+    → member_from lenient d l c modifiers ts ≡ (one is_name c r >>= (λ n c1 r1. annotation_part lenient d l c1 r1 >>= (λ t c2 r2. initial_part lenient d l c2 r2 >>= (λ x c3 r3.
     got (m.Stored (record { modifiers = modifiers; binding = binding.Let; name = name_of n; declared = t; initial = x })) c3 r3))))
 unfolding member_from annotation_part initial_part
 member_let lenient d l c modifiers ts f r h takes = ap (on_member modifiers) (chosen (at_first (is k.Let) ts) true _ _ h)
@@ -135,7 +135,7 @@ member_let lenient d l c modifiers ts f r h takes = ap (on_member modifiers) (ch
     ∙ past_on lenient (is k.Let) (name · g.maybe annotation · g.maybe initial) d l c ts f r _ takes
     ∙ both_on lenient name (g.maybe annotation · g.maybe initial) d l c r _
     ∙ name_on lenient d l c r _
-    ∙ bind_same (one face_of is_name c r) _ _ (λ n c1 r1. both_on lenient (g.maybe annotation) (g.maybe initial) d l c1 r1 _)
+    ∙ bind_same (one is_name c r) _ _ (λ n c1 r1. both_on lenient (g.maybe annotation) (g.maybe initial) d l c1 r1 _)
 
 abbrev typed_rest : P (TypeTree → Named Member)
 typed_rest = g.gives initial_var initial ∣ g.gives computed_var getter
@@ -147,7 +147,7 @@ abbrev untyped : P (Named Member)
 untyped = g.gives (λ x. stored_var None (Some x)) initial
 
 pub member_var : (lenient : Bool) → (d l c : ℕ) (modifiers : List Modifier) (ts : List Sighted) (f : Face) (r : List Sighted) → at_first (is k.Let) ts ≡ false → at_first (is k.Var) ts ≡ true → Takes (is k.Var) ts f r
-    → member_from lenient d l c modifiers ts ≡ (one face_of is_name c r >>= (λ n c1 r1. var_from lenient d l c1 modifiers (name_of n) r1))
+    → member_from lenient d l c modifiers ts ≡ (one is_name c r >>= (λ n c1 r1. var_from lenient d l c1 modifiers (name_of n) r1))
 unfolding member_from var_from
 member_var lenient d l c modifiers ts f r h0 h takes = ap (on_member modifiers) (chosen (at_first (is k.Let) ts) false _ _ h0 ∙ chosen (at_first (is k.Var) ts) true _ _ h)
     ∙ gives_on lenient (λ x modifiers. or_untyped x.1 modifiers x.0) (behind (tok k.Var) (name · g.maybe (typed ∣ untyped))) d l c ts (applied modifiers)
@@ -214,14 +214,14 @@ member_func lenient d l c modifiers ts h0 h1 h = ap (on_member modifiers) (chose
     ∙ sym (bind_assoc (read_part lenient signature d l c ts) _ _)
 
 pub member_init : (lenient : Bool) → (d l c : ℕ) (modifiers : List Modifier) (ts : List Sighted) → at_first (is k.Let) ts ≡ false → at_first (is k.Var) ts ≡ false → at_first (is k.Func) ts ≡ false
-    → member_from lenient d l c modifiers ts ≡ (one face_of (is k.Init) c ts >>= (λ f c1 r1. params_part lenient d l c1 r1 >>= (λ ps c2 r2. flag_part lenient k.Throws d l c2 r2 >>= (λ t c3 r3. read lenient Block d l c3 r3 >>= (λ body c4 r4.
+    → member_from lenient d l c modifiers ts ≡ (one (is k.Init) c ts >>= (λ f c1 r1. params_part lenient d l c1 r1 >>= (λ ps c2 r2. flag_part lenient k.Throws d l c2 r2 >>= (λ t c3 r3. read lenient Block d l c3 r3 >>= (λ body c4 r4.
     got (m.Initializer (record { modifiers = modifiers; span = f.span; parameters = ps; throws = t; body = body })) c4 r4)))))
 unfolding member_from params_part flag_part
 member_init lenient d l c modifiers ts h0 h1 h2 = ap (on_member modifiers) (chosen (at_first (is k.Let) ts) false _ _ h0 ∙ chosen (at_first (is k.Var) ts) false _ _ h1 ∙ chosen (at_first (is k.Func) ts) false _ _ h2)
     ∙ gives_on lenient (λ x modifiers. m.Initializer (record { modifiers = modifiers; span = x.0; parameters = x.1.0; throws = x.1.1.0; body = x.1.1.1 })) (place k.Init · params · present (tok k.Throws) · g.sym Block) d l c ts (applied modifiers)
     ∙ both_on lenient (place k.Init) (params · present (tok k.Throws) · g.sym Block) d l c ts _
     ∙ place_on lenient k.Init d l c ts _
-    ∙ bind_same (one face_of (is k.Init) c ts) _ _ (λ f c1 r1. both_on lenient params (present (tok k.Throws) · g.sym Block) d l c1 r1 _
+    ∙ bind_same (one (is k.Init) c ts) _ _ (λ f c1 r1. both_on lenient params (present (tok k.Throws) · g.sym Block) d l c1 r1 _
     ∙ bind_same (params_part lenient d l c1 r1) _ _ (λ ps c2 r2. both_on lenient (present (tok k.Throws)) (g.sym Block) d l c2 r2 _))
 
 -- ---- getters
@@ -241,7 +241,7 @@ unfolding getter_part
 getter_deep lenient d l c ts h z = ap (λ o. o >>= (λ x c' r. got (or_no_statement x) c' r)) (braces_deep lenient (g.maybe (get_body ∣ bare_body)) d l c ts h z)
 
 pub getter_open : (lenient : Bool) → (d l c : ℕ) (ts : List Sighted) (f : Face) (r : List Sighted) → (d ≡ 0 → ⊥) → Takes (is k.LeftBrace) ts f r
-    → getter_part lenient d l c ts ≡ (accessor_part lenient (d - 1) l c r >>= (λ x c1 r1. one face_of (is k.RightBrace) c1 r1 >>= (λ _ c2 r2. got x c2 r2)))
+    → getter_part lenient d l c ts ≡ (accessor_part lenient (d - 1) l c r >>= (λ x c1 r1. one (is k.RightBrace) c1 r1 >>= (λ _ c2 r2. got x c2 r2)))
 unfolding getter_part accessor_part
 getter_open lenient d l c ts f r z takes = braces_on lenient (g.maybe (get_body ∣ bare_body)) d l c ts f r _ z takes
     ∙ sym (bind_assoc (read_part lenient (g.maybe (get_body ∣ bare_body)) (d - 1) l c r) _ _)
@@ -270,7 +270,7 @@ pub accessor_body : (lenient : Bool) → (d l c : ℕ) (ts : List Sighted) → a
 unfolding accessor_part body_from
 accessor_body lenient d l c [] h = ap (λ o. (o >>= (λ x c r. got (put [] x) c r)) >>= (λ (x : Body) c r. got (accessor.Body x.0) c r)) (sym (step lenient (Sbody InBlock) d l c []))
 accessor_body lenient d l c (t ∷ ts) h =
-    bare_as c (t ∷ ts) (is_getter t) (starts_stmt t) (read_part lenient get_body d l c (t ∷ ts)) (read lenient (Stmts InBlock) d l c (t ∷ ts)) (bad stuck (t ∷ ts)) h
+    bare_as c (t ∷ ts) (is_getter t.sight) (starts_stmt t.sight) (read_part lenient get_body d l c (t ∷ ts)) (read lenient (Stmts InBlock) d l c (t ∷ ts)) (bad stuck (t ∷ ts)) h
     ∙ ap (λ o. (o >>= (λ x c r. got (put [] x) c r)) >>= (λ (x : Body) c r. got (accessor.Body x.0) c r)) (sym (step lenient (Sbody InBlock) d l c (t ∷ ts)))
 
 -- ---- cases
@@ -294,7 +294,7 @@ pub cases_more : (lenient : Bool) → (d l c : ℕ) (xs : List CaseTree) (ts : L
     → more_cases lenient d l c xs ts ≡ (read lenient Case d l c r >>= (λ x c' r'. more_cases lenient d l c' (xs ++ x ∷ []) r'))
 cases_more lenient d l c xs ts f r h takes = more_more lenient (g.sym Case) tt d l c xs ts f r h takes
 
-pub case_step : (lenient : Bool) → (d l c : ℕ) (ts : List Sighted) → read lenient Case d l c ts ≡ (one face_of is_name c ts >>= (λ n c1 r1. payload_part lenient d l c1 r1 >>= (λ x c2 r2. got (record { name = name_of n; payload = x }) c2 r2)))
+pub case_step : (lenient : Bool) → (d l c : ℕ) (ts : List Sighted) → read lenient Case d l c ts ≡ (one is_name c ts >>= (λ n c1 r1. payload_part lenient d l c1 r1 >>= (λ x c2 r2. got (record { name = name_of n; payload = x }) c2 r2)))
 unfolding payload_part
 case_step lenient d l c ts = step lenient Case d l c ts
     ∙ both_on lenient name (g.maybe (in_parens (any (g.sym Payload)))) d l c ts _
@@ -309,7 +309,7 @@ unfolding payload_part
 payload_deep lenient d l c ts h z = maybe_some lenient (in_parens (any (g.sym Payload))) d l c ts h ∙ ap (λ o. o >>= (λ xs c' r. got (Some xs) c' r)) (parens_deep lenient (any (g.sym Payload)) d l c ts h z)
 
 pub payload_open : (lenient : Bool) → (d l c : ℕ) (ts : List Sighted) (f : Face) (r : List Sighted) → at_first (is k.LeftParen) ts ≡ true → (d ≡ 0 → ⊥) → Takes (is k.LeftParen) ts f r
-    → payload_part lenient d l c ts ≡ (payload_list lenient (d - 1) l c r >>= (λ xs c1 r1. one face_of (is k.RightParen) c1 r1 >>= (λ _ c2 r2. got (Some xs) c2 r2)))
+    → payload_part lenient d l c ts ≡ (payload_list lenient (d - 1) l c r >>= (λ xs c1 r1. one (is k.RightParen) c1 r1 >>= (λ _ c2 r2. got (Some xs) c2 r2)))
 unfolding payload_part payload_list
 payload_open lenient d l c ts f r h z takes = maybe_some lenient (in_parens (any (g.sym Payload))) d l c ts h ∙ parens_on lenient (any (g.sym Payload)) d l c ts f r _ z takes
 
@@ -329,7 +329,7 @@ pub payloads_more : (lenient : Bool) → (d l c : ℕ) (xs : List PayloadTree) (
 payloads_more lenient d l c xs ts f r h takes = more_more lenient (g.sym Payload) tt d l c xs ts f r h takes
 
 pub payload_labelled : (lenient : Bool) → (d l c : ℕ) (ts : List Sighted) (f : Face) (r : List Sighted) → at_first is_payload_label ts ≡ true → Takes is_payload_label ts f r
-    → read lenient Payload d l c ts ≡ (one face_of (is k.Colon) c r >>= (λ _ c1 r1. read lenient Type' d l l r1 >>= (λ t _ r2. got (record { label = Some (name_of f); declared = t }) c1 r2)))
+    → read lenient Payload d l c ts ≡ (one (is k.Colon) c r >>= (λ _ c1 r1. read lenient Type' d l l r1 >>= (λ t _ r2. got (record { label = Some (name_of f); declared = t }) c1 r2)))
 payload_labelled lenient d l c ts f r h takes = step lenient Payload d l c ts ∙ chosen (at_first is_payload_label ts) true _ _ h
     ∙ led_on lenient is_payload_label annotation d l c ts f r _ takes
     ∙ after_mark_type lenient k.Colon d l c r _
@@ -347,14 +347,14 @@ payload_stuck lenient d l c ts h h' = step lenient Payload d l c ts ∙ chosen (
 -- ---- requirements
 
 pub requirement_property : (lenient : Bool) → (d l c : ℕ) (ts : List Sighted) (f : Face) (r : List Sighted) → at_first (is k.Var) ts ≡ true → Takes (is k.Var) ts f r
-    → read lenient (Item Requirements) d l c ts ≡ (one face_of is_name c r >>= (λ n c1 r1. one face_of (is k.Colon) c1 r1 >>= (λ _ c2 r2. read lenient Type' d l l r2 >>= (λ t _ r3. get_block lenient d l c2 r3 >>= (λ _ c4 r4.
+    → read lenient (Item Requirements) d l c ts ≡ (one is_name c r >>= (λ n c1 r1. one (is k.Colon) c1 r1 >>= (λ _ c2 r2. read lenient Type' d l l r2 >>= (λ t _ r3. get_block lenient d l c2 r3 >>= (λ _ c4 r4.
     got (requirement.Property (name_of n) t) c4 r4)))))
 unfolding get_block
 requirement_property lenient d l c ts f r h takes = step lenient (Item Requirements) d l c ts ∙ chosen (at_first (is k.Var) ts) true _ _ h
     ∙ past_on lenient (is k.Var) (name · annotation · in_braces (g.mark is_get)) d l c ts f r _ takes
     ∙ both_on lenient name (annotation · in_braces (g.mark is_get)) d l c r _
     ∙ name_on lenient d l c r _
-    ∙ bind_same (one face_of is_name c r) _ _ (λ n c1 r1. both_on lenient annotation (in_braces (g.mark is_get)) d l c1 r1 _
+    ∙ bind_same (one is_name c r) _ _ (λ n c1 r1. both_on lenient annotation (in_braces (g.mark is_get)) d l c1 r1 _
     ∙ after_mark_type lenient k.Colon d l c1 r1 _)
 
 pub requirement_func : (lenient : Bool) → (d l c : ℕ) (ts : List Sighted) → at_first (is k.Var) ts ≡ false
@@ -374,6 +374,6 @@ unfolding get_block
 get_block_deep lenient d l c ts h z = braces_deep lenient (g.mark is_get) d l c ts h z
 
 pub get_block_open : (lenient : Bool) → (d l c : ℕ) (ts : List Sighted) (f : Face) (r : List Sighted) → (d ≡ 0 → ⊥) → Takes (is k.LeftBrace) ts f r
-    → get_block lenient d l c ts ≡ (one face_of is_get c r >>= (λ x c1 r1. one face_of (is k.RightBrace) c1 r1 >>= (λ _ c2 r2. got x c2 r2)))
+    → get_block lenient d l c ts ≡ (one is_get c r >>= (λ x c1 r1. one (is k.RightBrace) c1 r1 >>= (λ _ c2 r2. got x c2 r2)))
 unfolding get_block
 get_block_open lenient d l c ts f r z takes = braces_open lenient (g.mark is_get) d l c ts f r z takes

@@ -5,13 +5,13 @@ use Rattle.sw_grammar.specs.Grammar as g
 use Rattle.sw_grammar.specs.Reading.{Out, got, bad, spent, full, ◌>>=◌, at_first, one}
 use Rattle.sw_tree.specs.declared.expr.Expr.{Expr as ExprTree}
 use Rattle.sw_tree.specs.declared.expr.Expr.TheVariants as e
-use Rattle.sw_syntax.specs.Tokens.{Sighted, Face, face_of, same_kind}
+use Rattle.sw_syntax.specs.Tokens.{Sighted, Face, same_kind}
 use Rattle.sw_syntax.specs.Tests.{is, is_joined_question, is_ternary, is_sign, is_effect, is_binary, starts_operand}
 use Rattle.sw_syntax.specs.Values.{prefix_of, binary_of, to_left, to_right, ternary_of, with_forms, awaited, tried, is_some}
 use Rattle.sw_syntax.specs.Symbols.{Expr, Tern, Bin, Prefix, Post, Prim, Form}
 use Rattle.sw_syntax.specs.Parts.{P, ◌·◌, tok, place, present, behind}
 use Rattle.sw_syntax.specs.Grammar.{rule, operand, right, leftward as leftward_part, try_mark}
-use Rattle.sw_syntax.specs.Meaning.{read, read_part, Takes}
+use Rattle.sw_syntax.specs.Answering.{read, read_part, Takes}
 use Rattle.sw_syntax.specs.Chains.{takes_one, try_part, await_part, branches, chain, once, forms}
 use Rattle.sw_syntax.proofs.Classes.{apart}
 use Rattle.sw_syntax.proofs.Steps.{step, IsOk, bind_assoc, bind_then, bracketed, chosen, counted, counted_full, fold_end, fold_more}
@@ -36,12 +36,12 @@ try_some lenient d l c ts f r h takes =
 pub try_plain : (lenient : Bool) → (d l c : ℕ) (ts : List Sighted) (f : Face) (r : List Sighted) → at_first (is k.Try) ts ≡ true → Takes (is k.Try) ts f r → at_first is_joined_question r ≡ false
     → try_part lenient d l c ts ≡ got (Some (f.span, false)) c r
 try_plain lenient d l c ts f r h takes bare = try_some lenient d l c ts f r h takes
-    ∙ ap (λ o. (o >>= (λ x c' r'. got (is_some x) c' r')) >>= (λ q c' r'. got (Some (f.span, q)) c' r')) (chosen (at_first is_joined_question r) false (one face_of is_joined_question c r >>= (λ x c' r'. got (Some x) c' r')) (got None c r) bare)
+    ∙ ap (λ o. (o >>= (λ x c' r'. got (is_some x) c' r')) >>= (λ q c' r'. got (Some (f.span, q)) c' r')) (chosen (at_first is_joined_question r) false (one is_joined_question c r >>= (λ x c' r'. got (Some x) c' r')) (got None c r) bare)
 
 pub try_optional : (lenient : Bool) → (d l c : ℕ) (ts : List Sighted) (f : Face) (r : List Sighted) (q : Face) (r' : List Sighted) → at_first (is k.Try) ts ≡ true → Takes (is k.Try) ts f r
     → at_first is_joined_question r ≡ true → Takes is_joined_question r q r' → try_part lenient d l c ts ≡ got (Some (f.span, true)) c r'
 try_optional lenient d l c ts f r q r' h takes joined takes' = try_some lenient d l c ts f r h takes
-    ∙ ap (λ o. (o >>= (λ x c' r'. got (is_some x) c' r')) >>= (λ q c' r'. got (Some (f.span, q)) c' r')) (chosen (at_first is_joined_question r) true (one face_of is_joined_question c r >>= (λ x c' r'. got (Some x) c' r')) (got None c r) joined)
+    ∙ ap (λ o. (o >>= (λ x c' r'. got (is_some x) c' r')) >>= (λ q c' r'. got (Some (f.span, q)) c' r')) (chosen (at_first is_joined_question r) true (one is_joined_question c r >>= (λ x c' r'. got (Some x) c' r')) (got None c r) joined)
     ∙ ap (λ o. ((o >>= (λ x c' r'. got (Some x) c' r')) >>= (λ x c' r'. got (is_some x) c' r')) >>= (λ q c' r'. got (Some (f.span, q)) c' r')) (takes' c)
 
 pub await_none : (lenient : Bool) → (d l c : ℕ) (ts : List Sighted) → at_first (is k.Await) ts ≡ false → await_part lenient d l c ts ≡ got None c ts
@@ -98,17 +98,17 @@ both_branches x f (bad why r) q s = refl
 both_branches x f spent q s = refl
 
 pub branches_more : (lenient : Bool) → (d l c : ℕ) (x : ExprTree) (ts : List Sighted) (f : Face) (r : List Sighted) → at_first is_ternary ts ≡ true → (c ≡ 0 → ⊥) → Takes is_ternary ts f r
-    → branches lenient d l c x ts ≡ (read lenient Expr d l (c - 1) r >>= (λ y c1 r1. one face_of (is k.Colon) c1 r1 >>= (λ _ c2 r2. read lenient Expr d l c2 r2 >>= (λ z c3 r3. got (e.Ternary x (y, z)) c3 r3))))
+    → branches lenient d l c x ts ≡ (read lenient Expr d l (c - 1) r >>= (λ y c1 r1. one (is k.Colon) c1 r1 >>= (λ _ c2 r2. read lenient Expr d l c2 r2 >>= (λ z c3 r3. got (e.Ternary x (y, z)) c3 r3))))
 branches_more lenient d l c x ts f r h z takes = branches_some lenient d l c x ts h
     ∙ ap (λ o. (((o >>= (λ f c1 r1. read_part lenient two_branches d l c1 r1 >>= (λ y c2 r2. got (f, y) c2 r2))) >>= (λ (y : Face × (ExprTree × ExprTree)) c2 r2. got y.1 c2 r2)) >>= (λ y c2 r2. got (Some y) c2 r2)) >>= (λ y c2 r2. got (ternary_of x y) c2 r2)) (counted lenient is_ternary d l c ts z ∙ takes (c - 1))
-    ∙ both_branches x f (read lenient Expr d l (c - 1) r) (λ c r. one face_of (is k.Colon) c r) (λ c r. read lenient Expr d l c r)
+    ∙ both_branches x f (read lenient Expr d l (c - 1) r) (λ c r. one (is k.Colon) c r) (λ c r. read lenient Expr d l c r)
 
 -- ---- binary marks
 
 decided_right : (lenient : Bool) (m : ℕ) → IsOk lenient (right lenient m)
 unfolding same_kind
 decided_right false m = tt
-decided_right true m = (tt, tt, apart _ _ (λ t. refl) (λ t. refl) refl, refl, refl)
+decided_right true m = (tt, tt, apart _ _ refl, refl, refl)
 
 decided_operand : (lenient : Bool) (n m : ℕ) → IsOk lenient (operand n (right lenient m))
 decided_operand lenient n m = ((tt, refl), decided_right lenient m, λ t e h. cc)
@@ -222,7 +222,7 @@ right_operand true n d l c ts h = chosen (at_first starts_operand ts) true _ _ (
     said true h = refl
     said false h = absurd cc
 
-pub right_effect : (lenient : Bool) (n d l c : ℕ) (ts : List Sighted) → (lenient && not (at_first starts_operand ts)) ≡ true → read_part lenient (right lenient n) d l c ts ≡ (one face_of is_effect c ts >>= (λ f c' r. got (e.Nil f.span) c' r))
+pub right_effect : (lenient : Bool) (n d l c : ℕ) (ts : List Sighted) → (lenient && not (at_first starts_operand ts)) ≡ true → read_part lenient (right lenient n) d l c ts ≡ (one is_effect c ts >>= (λ f c' r. got (e.Nil f.span) c' r))
 right_effect false n d l c ts h = absurd cc
 right_effect true n d l c ts h = chosen (at_first starts_operand ts) false _ _ (said (at_first starts_operand ts) h)
   where

@@ -15,13 +15,13 @@ use Rattle.sw_tree.specs.declared.stmt.Pattern.TheVariants as p
 use Rattle.sw_tree.specs.declared.stmt.Bind.{Bind}
 use Rattle.sw_tree.specs.declared.stmt.Bind.TheVariants as b
 use Rattle.sw_tree.specs.declared.stmt.CatchPattern.TheVariants as cp
-use Rattle.sw_syntax.specs.Tokens.{same_kind, Sighted, Face, face_of}
+use Rattle.sw_syntax.specs.Tokens.{same_kind, Sighted, Face}
 use Rattle.sw_syntax.specs.Tests.{is, is_name, is_bool, starts_literal}
 use Rattle.sw_syntax.specs.Values.{name_of, integer_of, bool_of, pieces_of}
 use Rattle.sw_syntax.specs.Symbols.{Pat, Cpat, Expr}
 use Rattle.sw_syntax.specs.Parts.{P, ◌·◌, tok, place, name, behind, any, whole_expr}
 use Rattle.sw_syntax.specs.Grammar.{bind, binds}
-use Rattle.sw_syntax.specs.Meaning.{read, read_part, Takes}
+use Rattle.sw_syntax.specs.Answering.{read, read_part, Takes}
 use Rattle.sw_syntax.specs.Patterns.{literal_part, pieces_rest, bind_part, bind_list, more_binds, binds_part, type_part, case_part}
 use Rattle.sw_syntax.proofs.Classes.{apart}
 use Rattle.sw_syntax.proofs.Steps.{step, IsOk, bind_assoc, bind_same, chosen, turn, opened, opened_full}
@@ -29,11 +29,11 @@ use Rattle.sw_syntax.proofs.PartSteps.{both_on, gives_on, limited_on, mark_on, l
 
 -- ---- binds
 
-pub bind_let : (lenient : Bool) → (d l c : ℕ) (ts : List Sighted) (f : Face) (r : List Sighted) → at_first (is k.Let) ts ≡ true → Takes (is k.Let) ts f r → bind_part lenient d l c ts ≡ (one face_of is_name c r >>= (λ n c' r'. got (b.Let (name_of n)) c' r'))
+pub bind_let : (lenient : Bool) → (d l c : ℕ) (ts : List Sighted) (f : Face) (r : List Sighted) → at_first (is k.Let) ts ≡ true → Takes (is k.Let) ts f r → bind_part lenient d l c ts ≡ (one is_name c r >>= (λ n c' r'. got (b.Let (name_of n)) c' r'))
 unfolding bind_part
 bind_let lenient d l c ts f r h takes = chosen (at_first (is k.Let) ts) true _ _ h ∙ past_on lenient (is k.Let) name d l c ts f r _ takes ∙ name_on lenient d l c r _
 
-pub bind_any : (lenient : Bool) → (d l c : ℕ) (ts : List Sighted) → at_first (is k.Let) ts ≡ false → bind_part lenient d l c ts ≡ (one face_of (is k.Underscore) c ts >>= (λ _ c' r. got b.Any c' r))
+pub bind_any : (lenient : Bool) → (d l c : ℕ) (ts : List Sighted) → at_first (is k.Let) ts ≡ false → bind_part lenient d l c ts ≡ (one (is k.Underscore) c ts >>= (λ _ c' r. got b.Any c' r))
 unfolding bind_part
 bind_any lenient d l c ts h = chosen (at_first (is k.Let) ts) false _ _ h
 
@@ -47,7 +47,7 @@ bind_list_first lenient d l c ts h = any_first lenient bind d l c ts h
 
 decided_bind : (lenient : Bool) → IsOk lenient bind
 unfolding same_kind
-decided_bind lenient = ((tt, tt, apart _ _ (λ t. refl) (λ t. refl) refl), tt, apart _ _ (λ t. refl) (λ t. refl) refl, refl, refl)
+decided_bind lenient = ((tt, tt, apart _ _ refl), tt, apart _ _ refl, refl, refl)
 
 pub binds_end : (lenient : Bool) → (d l c : ℕ) (xs : List Bind) (ts : List Sighted) → at_first (is k.Comma) ts ≡ false → more_binds lenient d l c xs ts ≡ got xs c ts
 binds_end lenient d l c xs ts h = more_end lenient bind (decided_bind lenient) d l c xs ts h
@@ -66,29 +66,29 @@ unfolding binds_part
 binds_deep lenient d l c ts h z = maybe_some lenient binds d l c ts h ∙ ap (λ o. o >>= (λ xs c' r. got (Some xs) c' r)) (parens_deep lenient (any bind) d l c ts h z)
 
 pub binds_open : (lenient : Bool) → (d l c : ℕ) (ts : List Sighted) (f : Face) (r : List Sighted) → at_first (is k.LeftParen) ts ≡ true → (d ≡ 0 → ⊥) → Takes (is k.LeftParen) ts f r
-    → binds_part lenient d l c ts ≡ (bind_list lenient (d - 1) l c r >>= (λ xs c1 r1. one face_of (is k.RightParen) c1 r1 >>= (λ _ c2 r2. got (Some xs) c2 r2)))
+    → binds_part lenient d l c ts ≡ (bind_list lenient (d - 1) l c r >>= (λ xs c1 r1. one (is k.RightParen) c1 r1 >>= (λ _ c2 r2. got (Some xs) c2 r2)))
 unfolding binds_part bind_list
 binds_open lenient d l c ts f r h z takes = maybe_some lenient binds d l c ts h ∙ parens_on lenient (any bind) d l c ts f r _ z takes
 
 -- ---- patterns of a `catch`
 
 pub cpat_as : (lenient : Bool) → (d l c : ℕ) (ts : List Sighted) (f : Face) (r : List Sighted) → at_first (is k.Let) ts ≡ true → Takes (is k.Let) ts f r
-    → read lenient Cpat d l c ts ≡ (one face_of is_name c r >>= (λ n c1 r1. one face_of (is k.As) c1 r1 >>= (λ _ c2 r2. one face_of is_name c2 r2 >>= (λ m c3 r3. got (cp.As (name_of n) (name_of m)) c3 r3))))
+    → read lenient Cpat d l c ts ≡ (one is_name c r >>= (λ n c1 r1. one (is k.As) c1 r1 >>= (λ _ c2 r2. one is_name c2 r2 >>= (λ m c3 r3. got (cp.As (name_of n) (name_of m)) c3 r3))))
 cpat_as lenient d l c ts f r h takes = step lenient Cpat d l c ts ∙ chosen (at_first (is k.Let) ts) true _ _ h
     ∙ past_on lenient (is k.Let) (name · behind (tok k.As) name) d l c ts f r _ takes
     ∙ both_on lenient name (behind (tok k.As) name) d l c r _
     ∙ name_on lenient d l c r _
-    ∙ bind_same (one face_of is_name c r) _ _ (λ n c1 r1. behind_on lenient (tok k.As) name d l c1 r1 _
-    ∙ bind_same (one face_of (is k.As) c1 r1) _ _ (λ m c2 r2. name_on lenient d l c2 r2 _))
+    ∙ bind_same (one is_name c r) _ _ (λ n c1 r1. behind_on lenient (tok k.As) name d l c1 r1 _
+    ∙ bind_same (one (is k.As) c1 r1) _ _ (λ m c2 r2. name_on lenient d l c2 r2 _))
 
 pub cpat_case : (lenient : Bool) → (d l c : ℕ) (ts : List Sighted) → at_first (is k.Let) ts ≡ false
-    → read lenient Cpat d l c ts ≡ (one face_of is_name c ts >>= (λ n c1 r1. one face_of (is k.Dot) c1 r1 >>= (λ _ c2 r2. one face_of is_name c2 r2 >>= (λ m c3 r3. binds_part lenient d l c3 r3 >>= (λ xs c4 r4. got (cp.Case (name_of n) (name_of m) xs) c4 r4)))))
+    → read lenient Cpat d l c ts ≡ (one is_name c ts >>= (λ n c1 r1. one (is k.Dot) c1 r1 >>= (λ _ c2 r2. one is_name c2 r2 >>= (λ m c3 r3. binds_part lenient d l c3 r3 >>= (λ xs c4 r4. got (cp.Case (name_of n) (name_of m) xs) c4 r4)))))
 unfolding binds_part
 cpat_case lenient d l c ts h = step lenient Cpat d l c ts ∙ chosen (at_first (is k.Let) ts) false _ _ h
     ∙ both_on lenient name (behind (tok k.Dot) (name · g.maybe binds)) d l c ts _
     ∙ name_on lenient d l c ts _
-    ∙ bind_same (one face_of is_name c ts) _ _ (λ n c1 r1. behind_on lenient (tok k.Dot) (name · g.maybe binds) d l c1 r1 _
-    ∙ bind_same (one face_of (is k.Dot) c1 r1) _ _ (λ x c2 r2. both_on lenient name (g.maybe binds) d l c2 r2 _ ∙ name_on lenient d l c2 r2 _))
+    ∙ bind_same (one is_name c ts) _ _ (λ n c1 r1. behind_on lenient (tok k.Dot) (name · g.maybe binds) d l c1 r1 _
+    ∙ bind_same (one (is k.Dot) c1 r1) _ _ (λ x c2 r2. both_on lenient name (g.maybe binds) d l c2 r2 _ ∙ name_on lenient d l c2 r2 _))
 
 -- ---- patterns of a `case`
 
@@ -112,7 +112,7 @@ case_rest : (lenient : Bool) → (outer : Option Name) (d l c : ℕ) (ts : List 
 unfolding case_part binds_part
 case_rest lenient outer d l c ts = both_on lenient (place k.Dot) (name · g.maybe binds) d l c ts _
     ∙ gives_on lenient (λ f. f.span) (tok k.Dot) d l c ts _
-    ∙ bind_same (one face_of (is k.Dot) c ts) _ _ (λ f c1 r1. both_on lenient name (g.maybe binds) d l c1 r1 _ ∙ name_on lenient d l c1 r1 _)
+    ∙ bind_same (one (is k.Dot) c ts) _ _ (λ f c1 r1. both_on lenient name (g.maybe binds) d l c1 r1 _ ∙ name_on lenient d l c1 r1 _)
 
 pub pat_case : (lenient : Bool) → (d l c : ℕ) (ts : List Sighted) → at_first (is k.Underscore) ts ≡ false → at_first starts_literal ts ≡ false → at_first (is k.Nil) ts ≡ false
     → read lenient Pat d l c ts ≡ (type_part lenient d l c ts >>= (λ outer c' r. case_part lenient d l c' outer r))
@@ -176,10 +176,10 @@ pieces_more_of : (done : List StringPiece) (x : ExprTree) (m : Face) (y : ExprTr
 pieces_more_of done x m y xs last = sym (append_assoc done (record { value = x; text = m.text } ∷ []) (pieces_of y xs last))
 
 abbrev ended : Span → Text → (List (Face × ExprTree) → Face → List StringPiece) → List (Face × ExprTree) → ℕ → List Sighted → Out Sighted (Span × Literal)
-ended at text pieces xs c r = one face_of (is k.StringLast) c r >>= (λ last c' r'. got (at, literal.String text (pieces xs last)) c' r')
+ended at text pieces xs c r = one (is k.StringLast) c r >>= (λ last c' r'. got (at, literal.String text (pieces xs last)) c' r')
 
 pub pieces_last : (lenient : Bool) → (d l c : ℕ) (at : Span) (text : Text) (done : List StringPiece) (x : ExprTree) (ts : List Sighted) → at_first (is k.StringMiddle) ts ≡ false
-    → pieces_rest lenient d l c at text done x ts ≡ (one face_of (is k.StringLast) c ts >>= (λ last c' r. got (at, literal.String text (done ++ record { value = x; text = last.text } ∷ [])) c' r))
+    → pieces_rest lenient d l c at text done x ts ≡ (one (is k.StringLast) c ts >>= (λ last c' r. got (at, literal.String text (done ++ record { value = x; text = last.text } ∷ [])) c' r))
 unfolding pieces_rest
 pieces_last lenient d l c at text done x ts h = ap (λ o. o >>= ended at text (λ xs last. done ++ pieces_of x xs last)) (turn lenient piece (tt, tt, λ t e h. cc) refl d l c ts ∙ chosen (at_first (is k.StringMiddle) ts) false _ (got [] c ts) h)
 
@@ -192,4 +192,4 @@ pieces_more lenient d l c at text done x ts m r h takes =
     ∙ led_on lenient (is k.StringMiddle) whole_expr d l c ts m r _ takes
     ∙ limited_on lenient (g.sym Expr) d l c r _
     ∙ bind_same (read lenient Expr d l l r) _ _ (λ y _ r'. bind_assoc (read_part lenient (g.many piece) d l c r') _ _
-    ∙ bind_same (read_part lenient (g.many piece) d l c r') _ _ (λ ys c1 r1. bind_same (one face_of (is k.StringLast) c1 r1) _ _ (λ last c2 r2. ap (λ pieces. got (at, literal.String text pieces) c2 r2) (pieces_more_of done x m y ys last))))
+    ∙ bind_same (read_part lenient (g.many piece) d l c r') _ _ (λ ys c1 r1. bind_same (one (is k.StringLast) c1 r1) _ _ (λ last c2 r2. ap (λ pieces. got (at, literal.String text pieces) c2 r2) (pieces_more_of done x m y ys last))))

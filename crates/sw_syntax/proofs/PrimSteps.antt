@@ -11,13 +11,13 @@ use Rattle.sw_tree.specs.declared.expr.Expr.TheVariants as e
 use Rattle.sw_tree.specs.declared.expr.Literal.{Literal}
 use Rattle.sw_tree.specs.declared.expr.Literal.TheVariants as literal
 use Rattle.sw_tree.specs.declared.expr.StringPiece.{StringPiece}
-use Rattle.sw_syntax.specs.Tokens.{Sighted, Face, face_of}
+use Rattle.sw_syntax.specs.Tokens.{Sighted, Face}
 use Rattle.sw_syntax.specs.Tests.{is, is_name, is_bool, starts_literal, starts_expr}
 use Rattle.sw_syntax.specs.Values.{or_none, or_some, name_of, integer_of, bool_of, pieces_of}
 use Rattle.sw_syntax.specs.Symbols.{Expr, Prim, Elements}
 use Rattle.sw_syntax.specs.Parts.{P, ◌·◌, tok, place, name, behind}
 use Rattle.sw_syntax.specs.Grammar.{literal_with}
-use Rattle.sw_syntax.specs.Meaning.{read, read_part, Takes}
+use Rattle.sw_syntax.specs.Answering.{read, read_part, Takes}
 use Rattle.sw_syntax.specs.Chains.{IsLater, string_rest, element_list, more_elements}
 use Rattle.sw_syntax.proofs.Steps.{step, bind_assoc, bind_same, bind_then, bracketed, chosen, turn, one_none, opened, opened_full, first_left, first_right}
 
@@ -102,8 +102,8 @@ pub string_open : (lenient : Bool) → (d l c : ℕ) (ts : List Sighted) (f : Fa
 unfolding string_rest
 string_open lenient d l c ts f r h0 h1 h2 h z takes = string_step lenient d l c ts h0 h1 h2 h
     ∙ ap string_told (opened lenient with_pieces d l c ts z)
-    ∙ ap (λ o. string_told (o >>= (λ f c1 r1. (read lenient Expr (d - 1) l c1 r1 >>= (λ x c r. (read_part lenient (g.many piece) (d - 1) l c r >>= (λ xs c' r'. one face_of (is k.StringLast) c' r' >>= (λ last c'' r''. got (xs, last) c'' r''))) >>= (λ y c' r'. got (x, y) c' r'))) >>= (λ y c' r'. got (f, y) c' r')))) (takes c)
-    ∙ string_shape f (read lenient Expr (d - 1) l c r) (λ c r. read_part lenient (g.many piece) (d - 1) l c r) (λ c r. one face_of (is k.StringLast) c r)
+    ∙ ap (λ o. string_told (o >>= (λ f c1 r1. (read lenient Expr (d - 1) l c1 r1 >>= (λ x c r. (read_part lenient (g.many piece) (d - 1) l c r >>= (λ xs c' r'. one (is k.StringLast) c' r' >>= (λ last c'' r''. got (xs, last) c'' r''))) >>= (λ y c' r'. got (x, y) c' r'))) >>= (λ y c' r'. got (f, y) c' r')))) (takes c)
+    ∙ string_shape f (read lenient Expr (d - 1) l c r) (λ c r. read_part lenient (g.many piece) (d - 1) l c r) (λ c r. one (is k.StringLast) c r)
 
 -- ---- names and marks
 
@@ -133,10 +133,10 @@ implied_member at (bad why r) = refl
 implied_member at spent = refl
 
 pub prim_implicit : (lenient : Bool) → (d l c : ℕ) (ts : List Sighted) (f : Face) (r : List Sighted) → IsLater ts → at_first (is k.Dot) ts ≡ true → Takes (is k.Dot) ts f r
-    → read lenient Prim d l c ts ≡ (one face_of is_name c r >>= (λ n c' r'. got (e.Implicit f.span (name_of n)) c' r'))
+    → read lenient Prim d l c ts ≡ (one is_name c r >>= (λ n c' r'. got (e.Implicit f.span (name_of n)) c' r'))
 prim_implicit lenient d l c ts f r others h takes = later lenient d l c ts others ∙ chosen (at_first (is k.Dot) ts) true _ _ h
     ∙ ap (λ o. ((o >>= (λ f c r. got f.span c r)) >>= (λ at c r. read_part lenient name d l c r >>= (λ n c' r'. got (at, n) c' r'))) >>= (λ (x : Span × Name) c r. got (e.Implicit x.0 x.1) c r)) (takes c)
-    ∙ implied_member f.span (one face_of is_name c r)
+    ∙ implied_member f.span (one is_name c r)
 
 -- ---- brackets
 
@@ -153,10 +153,10 @@ pub paren_deep : (lenient : Bool) → (d l c : ℕ) (ts : List Sighted) → IsLa
 paren_deep lenient d l c ts others h0 h z = paren_step lenient d l c ts others h0 h ∙ ap paren_told (opened_full lenient paren d l c ts z h)
 
 pub prim_paren : (lenient : Bool) → (d l c : ℕ) (ts : List Sighted) (f : Face) (r : List Sighted) → IsLater ts → at_first (is k.Dot) ts ≡ false → at_first (is k.LeftParen) ts ≡ true → (d ≡ 0 → ⊥) → Takes (is k.LeftParen) ts f r
-    → read lenient Prim d l c ts ≡ (read lenient Expr (d - 1) l c r >>= (λ x c' r'. one face_of (is k.RightParen) c' r' >>= (λ _ c'' r''. got (e.Paren f.span x) c'' r'')))
+    → read lenient Prim d l c ts ≡ (read lenient Expr (d - 1) l c r >>= (λ x c' r'. one (is k.RightParen) c' r' >>= (λ _ c'' r''. got (e.Paren f.span x) c'' r'')))
 prim_paren lenient d l c ts f r others h0 h z takes = paren_step lenient d l c ts others h0 h ∙ ap paren_told (opened lenient paren d l c ts z)
-    ∙ bracketed (read_part lenient (place k.LeftParen) (d - 1) l c ts) (λ c r. read lenient Expr (d - 1) l c r) (λ c r. one face_of (is k.RightParen) c r) (λ x. e.Paren x.0 x.1.0)
-    ∙ ap (λ o. (o >>= (λ f c r. got f.span c r)) >>= (λ at c r. read lenient Expr (d - 1) l c r >>= (λ x c' r'. one face_of (is k.RightParen) c' r' >>= (λ _ c'' r''. got (e.Paren at x) c'' r'')))) (takes c)
+    ∙ bracketed (read_part lenient (place k.LeftParen) (d - 1) l c ts) (λ c r. read lenient Expr (d - 1) l c r) (λ c r. one (is k.RightParen) c r) (λ x. e.Paren x.0 x.1.0)
+    ∙ ap (λ o. (o >>= (λ f c r. got f.span c r)) >>= (λ at c r. read lenient Expr (d - 1) l c r >>= (λ x c' r'. one (is k.RightParen) c' r' >>= (λ _ c'' r''. got (e.Paren at x) c'' r'')))) (takes c)
 
 -- ---- arrays
 
@@ -173,7 +173,7 @@ pub array_deep : (lenient : Bool) → (d l c : ℕ) (ts : List Sighted) → IsLa
 array_deep lenient d l c ts others h0 h1 h z = array_step lenient d l c ts others h0 h1 ∙ ap array_told (opened_full lenient array d l c ts z h)
 
 abbrev with_elements : (lenient : Bool) → ℕ → ℕ → ℕ → Span → List Sighted → Out Sighted ExprTree
-with_elements lenient d l c at r = element_list lenient d l c r >>= (λ xs c' r'. one face_of (is k.RightBracket) c' r' >>= (λ _ c'' r''. got (e.Array at xs) c'' r''))
+with_elements lenient d l c at r = element_list lenient d l c r >>= (λ xs c' r'. one (is k.RightBracket) c' r' >>= (λ _ c'' r''. got (e.Array at xs) c'' r''))
 
 elements_of : (at : Span) (o : Out Sighted (Option (List ExprTree))) (q : ℕ → List Sighted → Out Sighted Face)
     → (o >>= (λ xs c r. q c r >>= (λ z c' r'. got (e.Array at (or_none xs)) c' r'))) ≡ ((o >>= (λ xs c r. got (or_none xs) c r)) >>= (λ xs c r. q c r >>= (λ _ c' r'. got (e.Array at xs) c' r')))
@@ -182,17 +182,17 @@ elements_of at (bad why r) q = refl
 elements_of at spent q = refl
 
 pub prim_array : (lenient : Bool) → (d l c : ℕ) (ts : List Sighted) (f : Face) (r : List Sighted) → IsLater ts → at_first (is k.Dot) ts ≡ false → at_first (is k.LeftParen) ts ≡ false → (d ≡ 0 → ⊥) → Takes (is k.LeftBracket) ts f r
-    → read lenient Prim d l c ts ≡ (element_list lenient (d - 1) l c r >>= (λ xs c' r'. one face_of (is k.RightBracket) c' r' >>= (λ _ c'' r''. got (e.Array f.span xs) c'' r'')))
+    → read lenient Prim d l c ts ≡ (element_list lenient (d - 1) l c r >>= (λ xs c' r'. one (is k.RightBracket) c' r' >>= (λ _ c'' r''. got (e.Array f.span xs) c'' r'')))
 unfolding element_list
 prim_array lenient d l c ts f r others h0 h1 z takes = array_step lenient d l c ts others h0 h1 ∙ ap array_told (opened lenient array d l c ts z)
-    ∙ bracketed (read_part lenient (place k.LeftBracket) (d - 1) l c ts) (λ c r. read_part lenient (g.maybe (g.sym Elements)) (d - 1) l c r) (λ c r. one face_of (is k.RightBracket) c r) (λ x. e.Array x.0 (or_none x.1.0))
-    ∙ ap (λ o. (o >>= (λ f c r. got f.span c r)) >>= (λ at c r. read_part lenient (g.maybe (g.sym Elements)) (d - 1) l c r >>= (λ xs c' r'. one face_of (is k.RightBracket) c' r' >>= (λ z c'' r''. got (e.Array at (or_none xs)) c'' r'')))) (takes c)
-    ∙ elements_of f.span (read_part lenient (g.maybe (g.sym Elements)) (d - 1) l c r) (λ c r. one face_of (is k.RightBracket) c r)
+    ∙ bracketed (read_part lenient (place k.LeftBracket) (d - 1) l c ts) (λ c r. read_part lenient (g.maybe (g.sym Elements)) (d - 1) l c r) (λ c r. one (is k.RightBracket) c r) (λ x. e.Array x.0 (or_none x.1.0))
+    ∙ ap (λ o. (o >>= (λ f c r. got f.span c r)) >>= (λ at c r. read_part lenient (g.maybe (g.sym Elements)) (d - 1) l c r >>= (λ xs c' r'. one (is k.RightBracket) c' r' >>= (λ z c'' r''. got (e.Array at (or_none xs)) c'' r'')))) (takes c)
+    ∙ elements_of f.span (read_part lenient (g.maybe (g.sym Elements)) (d - 1) l c r) (λ c r. one (is k.RightBracket) c r)
 
 -- no operand begins with the token
 pub prim_none : (lenient : Bool) → (d l c : ℕ) (ts : List Sighted) → IsLater ts → at_first (is k.Dot) ts ≡ false → at_first (is k.LeftParen) ts ≡ false → (d ≡ 0 → ⊥) → at_first (is k.LeftBracket) ts ≡ false → read lenient Prim d l c ts ≡ bad stuck ts
 prim_none lenient d l c ts others h0 h1 z h = array_step lenient d l c ts others h0 h1 ∙ ap array_told (opened lenient array d l c ts z)
-    ∙ ap (λ o. array_told ((o >>= (λ f c r. got f.span c r)) >>= (λ at c r. (read_part lenient (g.maybe (g.sym Elements)) (d - 1) l c r >>= (λ xs c' r'. one face_of (is k.RightBracket) c' r' >>= (λ z c'' r''. got (xs, z) c'' r''))) >>= (λ y c' r'. got (at, y) c' r')))) (one_none (is k.LeftBracket) c ts h)
+    ∙ ap (λ o. array_told ((o >>= (λ f c r. got f.span c r)) >>= (λ at c r. (read_part lenient (g.maybe (g.sym Elements)) (d - 1) l c r >>= (λ xs c' r'. one (is k.RightBracket) c' r' >>= (λ z c'' r''. got (xs, z) c'' r''))) >>= (λ y c' r'. got (at, y) c' r')))) (one_none (is k.LeftBracket) c ts h)
 
 pub prim_none_deep : (lenient : Bool) → (d l c : ℕ) (ts : List Sighted) → IsLater ts → at_first (is k.Dot) ts ≡ false → at_first (is k.LeftParen) ts ≡ false → d ≡ 0 → at_first (is k.LeftBracket) ts ≡ false → read lenient Prim d l c ts ≡ bad stuck ts
 prim_none_deep lenient zero l c ts others h0 h1 z h = array_step lenient zero l c ts others h0 h1 ∙ ap array_told (chosen (at_first (is k.LeftBracket) ts) false (bad full ts) (bad stuck ts) h)
@@ -212,10 +212,10 @@ abbrev piece_list : (lenient : Bool) → ℕ → ℕ → ℕ → List Sighted �
 piece_list lenient d l c ts = read_part lenient (g.many piece) d l c ts
 
 abbrev ended : Span → Text → (List (Face × ExprTree) → Face → List StringPiece) → Out Sighted (List (Face × ExprTree)) → Out Sighted ExprTree
-ended at text pieces o = o >>= (λ xs c1 r1. one face_of (is k.StringLast) c1 r1 >>= (λ last c2 r2. got (e.Literal at (literal.String text (pieces xs last))) c2 r2))
+ended at text pieces o = o >>= (λ xs c1 r1. one (is k.StringLast) c1 r1 >>= (λ last c2 r2. got (e.Literal at (literal.String text (pieces xs last))) c2 r2))
 
 pub string_last : (lenient : Bool) → (d l c : ℕ) (at : Span) (text : Text) (done : List StringPiece) (x : ExprTree) (ts : List Sighted) → at_first (is k.StringMiddle) ts ≡ false
-    → string_rest lenient d l c at text done x ts ≡ (one face_of (is k.StringLast) c ts >>= (λ last c' r. got (e.Literal at (literal.String text (done ++ record { value = x; text = last.text } ∷ []))) c' r))
+    → string_rest lenient d l c at text done x ts ≡ (one (is k.StringLast) c ts >>= (λ last c' r. got (e.Literal at (literal.String text (done ++ record { value = x; text = last.text } ∷ []))) c' r))
 unfolding string_rest
 string_last lenient d l c at text done x ts h = ap (ended at text (λ xs last. done ++ pieces_of x xs last)) (turn lenient piece (tt, tt, λ t e h. cc) refl d l c ts ∙ chosen (at_first (is k.StringMiddle) ts) false _ (got [] c ts) h)
 
@@ -232,7 +232,7 @@ middle_shape at text done x m (got y c r) q = go (q c r)
 
     go : (o : Out Sighted (List (Face × ExprTree))) → ended at text (λ xs last. done ++ pieces_of x xs last) (o >>= (λ ys c' r'. got ((m, y) ∷ ys) c' r'))
         ≡ ended at text (λ xs last. (done ++ record { value = x; text = m.text } ∷ []) ++ pieces_of y xs last) o
-    go (got xs c r) = last_of xs (one face_of (is k.StringLast) c r)
+    go (got xs c r) = last_of xs (one (is k.StringLast) c r)
     go (bad why r) = refl
     go spent = refl
 middle_shape at text done x m (bad why r) q = refl

@@ -4,11 +4,13 @@ use Rattle.std.proofs.lemmas.List.{length-drop}
 use Rattle.sw_grammar.specs.Reading.{Out, got, bad, full, stuck}
 use Rattle.sw_grammar.proofs.Begun as begun
 use Rattle.sw_lex.specs.declared.token.Token.{Token}
-use Rattle.sw_syntax.specs.Tokens.{Sighted, Face, face_of, sighted}
+use Rattle.sw_syntax.specs.declared.class.Sight.{Sight}
+use Rattle.sw_syntax.specs.Tokens.{Sighted, Face, sighted}
 use Rattle.sw_syntax.specs.Symbols.{Symbol, Sort}
 use Rattle.sw_syntax.specs.Grammar.{rule}
 use Rattle.sw_syntax.specs.Tables.{heads, tails, empties}
-use Rattle.sw_syntax.specs.Meaning.{Spells, Begun, Answers, source_room, read_in}
+use Rattle.sw_syntax.specs.Meaning.{Spells, Begun, source_room}
+use Rattle.sw_syntax.specs.Answering.{Answers, read_in}
 use Rattle.sw_syntax.specs.Reading.{why}
 use Rattle.sw_syntax.specs.Refusals.{EndsAt, LacksRoom, IsNoText, IsText}
 use Rattle.sw_syntax.proofs.Law.{exact, begun_front}
@@ -74,7 +76,7 @@ module _ (lenient : Bool) (s : Symbol) (S : List Sighted) (at : ℕ) (u : List S
   ends_here v r (y ∷ w, eu, er) ends p = absurd (ended v w y eu (subst (EndsAt lenient s v) er ends source_room) p)
 
   spelt_begun : (v : List Sighted) (x : Sort s) → Spells lenient s source_room v x → Begun lenient s source_room v
-  spelt_begun v x = begun.spelt_begun Sighted Face Symbol Sort face_of (rule lenient) heads empties tails s source_room v x
+  spelt_begun v x = begun.spelt_begun Sight Face Symbol Sort (rule lenient) heads empties tails s source_room v x
 
   abbrev answer : Out Sighted (Sort s) → Type 0
   answer o = Answers lenient s source_room (drop at S) o

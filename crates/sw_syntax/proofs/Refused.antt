@@ -1,18 +1,20 @@
--- Which rule is broken first, told from the longest run that begins a text and the token behind it; and that the answer is the only one.
-use Rattle.std.proofs.Common.{◌≡◌, ◌<◌, ◌≤◌, ◌+◌, ◌⊎◌, inl, inr, ℕ, Bool, true, false, if◌then◌else◌, ◌==◌, List, [], ◌∷◌, ◌++◌, drop, length, refl, sym, ap, ◌∙◌, subst, arith}
+-- Which rule is broken first, told from the longest run that begins a text and the token behind it; and that a text is the only one.
+use Rattle.std.proofs.Common.{◌≡◌, ◌<◌, ◌≤◌, ◌+◌, ◌⊎◌, inl, inr, ℕ, Bool, true, false, List, [], ◌∷◌, ◌++◌, drop, length, refl, sym, ap, ◌∙◌, subst, arith}
 use Rattle.sw_rules.specs.declared.Rule.{Rule}
 use Rattle.sw_rules.specs.declared.Rule.TheVariants.{P1, P2, P3, P4, P5, P6}
 use Rattle.sw_rules.specs.Rule.{rule_order}
 use Rattle.sw_lex.specs.declared.token.Token.{Token}
 use Rattle.sw_grammar.proofs.Only as only
 use Rattle.sw_grammar.proofs.Begun as begun
-use Rattle.sw_syntax.specs.Tokens.{Sighted, Face, face_of, sighted}
+use Rattle.sw_syntax.specs.declared.class.Sight.{Sight}
+use Rattle.sw_syntax.specs.Tokens.{Sighted, Face, sighted}
 use Rattle.sw_syntax.specs.Tests.{is_comparison, is_effect}
 use Rattle.sw_syntax.specs.Symbols.{Symbol, Sort}
 use Rattle.sw_syntax.specs.Grammar.{rule}
 use Rattle.sw_syntax.specs.Tables.{heads, tails, empties, rank, width}
 use Rattle.sw_syntax.specs.Meaning.{Spells, Begun, source_room}
-use Rattle.sw_syntax.specs.Refusals.{EndsAt, LacksRoom, IsNoText, IsLongest, BreaksLater, BreaksBehind, before, IsBefore, IsFirstBroken, BreaksNone, IsText}
+use Rattle.sw_syntax.specs.Refusals.{EndsAt, LacksRoom, IsNoText, IsLongest, BreaksLater, BreaksBehind, before, IsText}
+use Rattle.sw_syntax.specs.Finding.{IsBefore, IsFirstBroken, BreaksNone}
 use Rattle.sw_syntax.proofs.Decides.{is_decided}
 use Rattle.sw_syntax.proofs.Law.{one_tree}
 
@@ -31,13 +33,13 @@ stops s u [] h = tt
 stops s u (t ∷ rest) h = h source_room
 
 same_cut : (s : Symbol) (ts u rest v other : List Sighted) → ts ≡ u ++ rest → ts ≡ v ++ other → Begun false s source_room u → Begun false s source_room v → StopsAt s u rest → StopsAt s v other → (u ≡ v) × (rest ≡ other)
-same_cut s ts u [] v [] = only.same_cut Sighted Face Symbol Sort face_of (rule false) heads empties tails rank width (is_decided false) s source_room ts u [] v []
-same_cut s ts u [] v (y ∷ other) = only.same_cut Sighted Face Symbol Sort face_of (rule false) heads empties tails rank width (is_decided false) s source_room ts u [] v (y ∷ other)
-same_cut s ts u (t ∷ rest) v [] = only.same_cut Sighted Face Symbol Sort face_of (rule false) heads empties tails rank width (is_decided false) s source_room ts u (t ∷ rest) v []
-same_cut s ts u (t ∷ rest) v (y ∷ other) = only.same_cut Sighted Face Symbol Sort face_of (rule false) heads empties tails rank width (is_decided false) s source_room ts u (t ∷ rest) v (y ∷ other)
+same_cut s ts u [] v [] = only.same_cut Sight Face Symbol Sort (rule false) heads empties tails rank width (is_decided false) s source_room ts u [] v []
+same_cut s ts u [] v (y ∷ other) = only.same_cut Sight Face Symbol Sort (rule false) heads empties tails rank width (is_decided false) s source_room ts u [] v (y ∷ other)
+same_cut s ts u (t ∷ rest) v [] = only.same_cut Sight Face Symbol Sort (rule false) heads empties tails rank width (is_decided false) s source_room ts u (t ∷ rest) v []
+same_cut s ts u (t ∷ rest) v (y ∷ other) = only.same_cut Sight Face Symbol Sort (rule false) heads empties tails rank width (is_decided false) s source_room ts u (t ∷ rest) v (y ∷ other)
 
 pub spelt_begun : (s : Symbol) (u : List Sighted) (x : Sort s) → Spells false s source_room u x → Begun false s source_room u
-spelt_begun s u x = begun.spelt_begun Sighted Face Symbol Sort face_of (rule false) heads empties tails s source_room u x
+spelt_begun s u x = begun.spelt_begun Sight Face Symbol Sort (rule false) heads empties tails s source_room u x
 
 same_longest : (s : Symbol) (tokens : List Token) (at : ℕ) (u v : List Sighted) (t y : Sighted) → IsLongest s tokens at u t → IsLongest s tokens at v y → (u ≡ v) × (t ≡ y)
 same_longest s tokens at u v t y (r, e, p, ends) (q, e', p', ends') =
@@ -114,7 +116,7 @@ module _ (s : Symbol) (tokens : List Token) (at : ℕ) (u : List Sighted) (t : S
   first_full place l n4 lacks e = first_of P3 place l (inl lacks) e (least_p3 n4 (λ h. lacks_ends false lacks h.1) (λ h. lacks_ends false lacks h.1))
 
   -- room is lacking for a second comparison
-  pub first_chain_full : (place : ℕ) → IsLongest s tokens at u t → Never P4 → Never P2 → is_comparison t ≡ true → Lacks true → place + 0 ≡ at + length u → IsFirstBroken s tokens at P3 place
+  pub first_chain_full : (place : ℕ) → IsLongest s tokens at u t → Never P4 → Never P2 → is_comparison t.sight ≡ true → Lacks true → place + 0 ≡ at + length u → IsFirstBroken s tokens at P3 place
   first_chain_full place l n4 n2 c lacks e = first_of P3 place l (inr (c, lacks)) e (least_p3 n4 (λ h. h.2 P3 (inr (c, lacks))) n2)
 
   least_p2 : Never P4 → Later P2 → (other : Rule) → Behind other → Comes P2 other
@@ -143,7 +145,7 @@ module _ (s : Symbol) (tokens : List Token) (at : ℕ) (u : List Sighted) (t : S
   least_p5 n4 n2 n3 p5 P6 h = inr (refl, omega arith)
   least_p5 n4 n2 n3 p5 other h = absurd h
 
-  pub first_p5 : (place : ℕ) → IsLongest s tokens at u t → Never P4 → Never P2 → is_comparison t ≡ true → Ends false → Goes → place + 0 ≡ at + length u → IsFirstBroken s tokens at P5 place
+  pub first_p5 : (place : ℕ) → IsLongest s tokens at u t → Never P4 → Never P2 → is_comparison t.sight ≡ true → Ends false → Goes → place + 0 ≡ at + length u → IsFirstBroken s tokens at P5 place
   first_p5 place l n4 n2 c ends goes e = first_of P5 place l (c, ends, goes) e (least_p5 n4 n2 (no_p3 ends goes) (c, ends, goes))
 
   least_p6 : Never P4 → Never P2 → Never P3 → Never P5 → Later P6 → (other : Rule) → Behind other → Comes P6 other
@@ -155,12 +157,12 @@ module _ (s : Symbol) (tokens : List Token) (at : ℕ) (u : List Sighted) (t : S
   least_p6 n4 n2 n3 n5 p6 P6 h = inr (refl, omega arith)
   least_p6 n4 n2 n3 n5 p6 other h = absurd h
 
-  pub first_p6 : (place : ℕ) → IsLongest s tokens at u t → Never P4 → Never P2 → (is_comparison t ≡ true → ⊥) → is_effect t ≡ true → Ends false → Goes → place + 0 ≡ at + length u → IsFirstBroken s tokens at P6 place
+  pub first_p6 : (place : ℕ) → IsLongest s tokens at u t → Never P4 → Never P2 → (is_comparison t.sight ≡ true → ⊥) → is_effect t.sight ≡ true → Ends false → Goes → place + 0 ≡ at + length u → IsFirstBroken s tokens at P6 place
   first_p6 place l n4 n2 other effect ends goes e = first_of P6 place l (effect, ends, goes) e (least_p6 n4 n2 (no_p3 ends goes) (λ h. other h.0) (effect, ends, goes))
 
   -- what the lenient grammar refuses too
   abbrev Quiet : Type 0
-  Quiet = (is_comparison t ≡ true → Ends true) × (is_effect t ≡ true → Goes → ⊥)
+  Quiet = (is_comparison t.sight ≡ true → Ends true) × (is_effect t.sight ≡ true → Goes → ⊥)
 
   quiet : Ends false → Never P4 → Never P2 → Quiet → (other : Rule) → Never other
   quiet ends n4 n2 q P2 h = n2 h
@@ -196,7 +198,7 @@ module _ (s : Symbol) (tokens : List Token) (at : ℕ) (u : List Sighted) (t : S
 -- ---- no rule
 
 pub unbroken : (s : Symbol) (tokens : List Token) (at : ℕ) (u rest : List Sighted) (t : Sighted) (x : Sort s) → drop at (sighted tokens) ≡ u ++ t ∷ rest → Spells false s source_room u x → EndsAt false s u (t ∷ [])
-    → (BreaksLater s tokens at u t P4 → ⊥) → (is_comparison t ≡ true → EndsAt true s u (t ∷ [])) × (is_effect t ≡ true → Begun true s source_room (u ++ t ∷ []) → ⊥) → BreaksNone s tokens at
+    → (BreaksLater s tokens at u t P4 → ⊥) → (is_comparison t.sight ≡ true → EndsAt true s u (t ∷ [])) × (is_effect t.sight ≡ true → Begun true s source_room (u ++ t ∷ []) → ⊥) → BreaksNone s tokens at
 unbroken s tokens at u rest t x e p ends n4 q = λ rule place (v, y, l, h, _).
     let same = same_longest s tokens at u v t y (rest, e, spelt_begun s u x p, ends source_room) l in
     unbroken_behind s tokens at u t x p ends n4 q rule (same_run s tokens at u t v y rule same h)
@@ -208,34 +210,8 @@ unbroken_end s tokens at u x e p = λ rule place (v, y, (r, e', p', ends), h, _)
     none : (y : Sighted) (r : List Sighted) → [] ≡ y ∷ r → ⊥
     none y r e = cc
 
--- ---- the answer is the only one
+-- ---- the text is the only one
 
--- the rules of the grammar by their order
-abbrev rule_at : ℕ → Rule
-rule_at n = if n == 5 then P1 else if n == 6 then P2 else if n == 7 then P3 else if n == 8 then P4 else if n == 9 then P5 else P6
-
-told_by_order : (s : Symbol) (tokens : List Token) (at : ℕ) (u : List Sighted) (t : Sighted) (rule : Rule) → BreaksBehind s tokens at u t rule → rule_at (rule_order rule) ≡ rule
-told_by_order s tokens at u t P1 h = refl
-told_by_order s tokens at u t P2 h = refl
-told_by_order s tokens at u t P3 h = refl
-told_by_order s tokens at u t P4 h = refl
-told_by_order s tokens at u t P5 h = refl
-told_by_order s tokens at u t P6 h = refl
-told_by_order s tokens at u t rule h = absurd h
-
-same_order : (a b x y : ℕ) → (a < b) ⊎ ((a ≡ b) × (x ≤ y)) → (b < a) ⊎ ((b ≡ a) × (y ≤ x)) → (a ≡ b) × (x ≡ y)
-same_order a b x y (inl h) (inl k) = absurd (omega (arith, h, k))
-same_order a b x y (inl h) (inr k) = absurd (omega (arith, h, k.0))
-same_order a b x y (inr h) (inl k) = absurd (omega (arith, h.0, k))
-same_order a b x y (inr h) (inr k) = (h.0, omega (arith, h.1, k.1))
-
--- of a refusal
-pub one_refusal : (s : Symbol) (tokens : List Token) (at : ℕ) (rule other : Rule) (place its_place : ℕ) → IsFirstBroken s tokens at rule place → IsFirstBroken s tokens at other its_place → (rule ≡ other) × (place ≡ its_place)
-one_refusal s tokens at rule other place its_place ((u, t, l, h, e), least) ((v, y, l', h', e'), least') =
-    let (same, order) = same_order place its_place (rule_order rule) (rule_order other) (least other its_place (v, y, l', h', e')) (least' rule place (u, t, l, h, e)) in
-    (sym (told_by_order s tokens at u t rule h) ∙ ap rule_at order ∙ told_by_order s tokens at v y other h', same)
-
--- of a text
 pub one_text : (s : Symbol) (tokens : List Token) (at : ℕ) (x y : Sort s) (end its_end : ℕ) → IsText s tokens at x end → IsText s tokens at y its_end → (x ≡ y) × (end ≡ its_end)
 one_text s tokens at x y end its_end (u, rest, e, n, p, ends) (v, other, e', n', q, ends') =
     let (same, _) = same_cut s (drop at (sighted tokens)) u rest v other e e' (spelt_begun s u x p) (spelt_begun s v y q) (stops s u rest ends) (stops s v other ends') in

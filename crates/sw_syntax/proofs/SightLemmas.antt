@@ -12,9 +12,10 @@ use Rattle.sw_syntax.specs.declared.class.Class.TheVariants as class
 use Rattle.sw_syntax.specs.declared.class.Sight.{Sight}
 use Rattle.sw_syntax.specs.declared.class.Test.{Test}
 use Rattle.sw_syntax.specs.declared.class.Test.TheVariants as test
-use Rattle.sw_syntax.specs.Tokens.{Sighted, Face, face_of, same_kind, class_in, class_of_name, is_next, touches_next, sighted, seen}
-use Rattle.sw_syntax.specs.Sights.{whole, passes, behind_break, broken_at, broken_if, token_face, first_class}
-use Rattle.sw_syntax.specs.Meaning.{Takes}
+use Rattle.sw_syntax.specs.Tokens.{Sighted, Face, same_kind, class_in, class_of_name, is_next, touches_next, sighted, seen}
+use Rattle.sw_syntax.specs.Sights.{passes, token_face, first_class}
+use Rattle.sw_syntax.specs.Broken.{behind_break, broken_at, broken_if}
+use Rattle.sw_syntax.specs.Answering.{Takes}
 use Rattle.sw_syntax.specs.Reading.{first_sight, IntegersFit}
 use Rattle.sw_syntax.specs.Tests.{is}
 use Rattle.sw_lex.specs.Rules.{number}
@@ -223,42 +224,12 @@ sight_value c c' a a' b b' e f g = cc
 pub sight_none : (b at : ℕ) (ts : List Token) → length ts ≤ at → None ≡ first_sight (drop at (sighted (broken_at b ts)))
 sight_none b at ts l = sym (ap (λ r. first_sight r) (past_sight b at ts l))
 
-strength : (n : ℕ) (t : Sighted) → passes (test.Binary n) t ≡ passes (test.Binary n) (whole (record { class = t.class; is_first = t.is_first; before_colon = t.before_colon }))
-strength zero t = refl
-strength (suc zero) t = refl
-strength (suc (suc zero)) t = refl
-strength (suc (suc (suc zero))) t = refl
-strength (suc (suc (suc (suc zero)))) t = refl
-strength (suc (suc (suc (suc (suc n))))) t = refl
-
--- a test looks at what is seen alone
-passed : (x : Test) (t : Sighted) → passes x t ≡ passes x (whole (record { class = t.class; is_first = t.is_first; before_colon = t.before_colon }))
-passed (test.Is kind) t = refl
-passed test.Name t = refl
-passed test.Bool t = refl
-passed test.LetOrVar t = refl
-passed test.Effect t = refl
-passed test.Sign t = refl
-passed test.Call t = refl
-passed test.Index t = refl
-passed test.Force t = refl
-passed test.Form t = refl
-passed test.JoinedQuestion t = refl
-passed test.Ternary t = refl
-passed (test.Binary n) t = strength n t
-passed test.Label t = refl
-passed test.Unlabelled t = refl
-passed test.Literal t = refl
-passed test.Operand t = refl
-passed test.Expr t = refl
-passed test.Argument t = refl
-
 some_same : {A : Type 0} (x y : A) → Some x ≡ Some y → x ≡ y
 some_same x y e = cc
 
-pub tested : (x : Test) (ts : List Sighted) (s : Sight) → Some s ≡ first_sight ts → passes x (whole s) ≡ at_first (passes x) ts
+pub tested : (x : Test) (ts : List Sighted) (s : Sight) → Some s ≡ first_sight ts → passes x s ≡ at_first (passes x) ts
 tested x [] s e = absurd cc
-tested x (t ∷ ts) s e = ap (λ s. passes x (whole s)) (some_same s (record { class = t.class; is_first = t.is_first; before_colon = t.before_colon }) e) ∙ sym (passed x t)
+tested x (t ∷ ts) s e = ap (λ s. passes x s) (some_same s t.sight e)
 
 pub untested : (x : Test) (ts : List Sighted) → None ≡ first_sight ts → false ≡ at_first (passes x) ts
 untested x [] e = refl
@@ -280,20 +251,20 @@ face_broken : (x : Bool) (t : Token) → token_face (broken_if x t) ≡ token_fa
 face_broken true t = refl
 face_broken false t = refl
 
-one_taken : (f : Sighted → Bool) (left : ℕ) (t : Sighted) (ts : List Sighted) → f t ≡ true → one face_of f left (t ∷ ts) ≡ got t.face left ts
-one_taken f left t ts e = picked (f t) e
+one_taken : (f : Sight → Bool) (left : ℕ) (t : Sighted) (ts : List Sighted) → f t.sight ≡ true → one f left (t ∷ ts) ≡ got t.face left ts
+one_taken f left t ts e = picked (f t.sight) e
   where
     picked : (x : Bool) → x ≡ true → cond x (got t.face left ts) (bad stuck (t ∷ ts)) ≡ got t.face left ts
     picked true e = refl
     picked false e = absurd cc
 
-pub taken : (f : Sighted → Bool) (left b at : ℕ) (ts : List Token) (d : Token) → at < length ts → at_first f (drop at (sighted (broken_at b ts))) ≡ true
-    → one face_of f left (drop at (sighted (broken_at b ts))) ≡ got (token_face (slice_index_or ts at d)) left (drop (at + 1) (sighted (broken_at b ts)))
+pub taken : (f : Sight → Bool) (left b at : ℕ) (ts : List Token) (d : Token) → at < length ts → at_first f (drop at (sighted (broken_at b ts))) ≡ true
+    → one f left (drop at (sighted (broken_at b ts))) ≡ got (token_face (slice_index_or ts at d)) left (drop (at + 1) (sighted (broken_at b ts)))
 taken f left b at ts d l h =
     let rest : List Token = drop (at + 1) (broken_at b ts) in
     let t : Token = broken_if (nat_eq at b) (slice_index_or ts at d) in
     let e : drop at (sighted (broken_at b ts)) ≡ sighted (t ∷ rest) = drop_sighted at (broken_at b ts) ∙ ap (λ r. sighted r) (look b at ts d l) in
-    ap (λ r. one face_of f left r) e ∙ one_taken f left (seen t rest) (sighted rest) (subst (λ r. at_first f r ≡ true) e h)
+    ap (λ r. one f left r) e ∙ one_taken f left (seen t rest) (sighted rest) (subst (λ r. at_first f r ≡ true) e h)
     ∙ ap (λ x. got x left (sighted rest)) (face_broken (nat_eq at b) (slice_index_or ts at d)) ∙ ap (λ r. got (token_face (slice_index_or ts at d)) left r) (sym (drop_sighted (at + 1) (broken_at b ts)))
 
 -- ---- integers that fit

@@ -4,33 +4,34 @@ use Rattle.sw_grammar.specs.Grammar as g
 use Rattle.sw_grammar.specs.Reading.{Out, got, bad, spent, full, stuck, ◌>>=◌, at_first, one, first, null}
 use Rattle.sw_grammar.specs.Deciding.{Decided}
 use Rattle.sw_grammar.proofs.Steps.{reads_step, many_step}
-use Rattle.sw_syntax.specs.Tokens.{Sighted, Face, face_of}
+use Rattle.sw_syntax.specs.declared.class.Sight.{Sight}
+use Rattle.sw_syntax.specs.Tokens.{Sighted, Face}
 use Rattle.sw_syntax.specs.Symbols.{Symbol, Sort}
 use Rattle.sw_syntax.specs.Parts.{P}
 use Rattle.sw_syntax.specs.Grammar.{rule}
 use Rattle.sw_syntax.specs.Tables.{heads, tails, empties, rank, width}
-use Rattle.sw_syntax.specs.Meaning.{read, read_part}
+use Rattle.sw_syntax.specs.Answering.{read, read_part}
 use Rattle.sw_syntax.proofs.Decides.{is_decided}
 
 -- the reader's equation
 pub step : (lenient : Bool) → (s : Symbol) (d l c : ℕ) (ts : List Sighted) → read lenient s d l c ts ≡ read_part lenient (rule lenient s) d l c ts
 unfolding read
-step lenient = reads_step Sighted Face Symbol Sort face_of (rule lenient) heads empties tails rank width (is_decided lenient)
+step lenient = reads_step Sight Face Symbol Sort (rule lenient) heads empties tails rank width (is_decided lenient)
 
-abbrev pub starts : (lenient : Bool) → {A : Type 0} → P A → Sighted → Bool
-starts lenient a = first Sighted Face Symbol Sort face_of (rule lenient) heads empties a
+abbrev pub starts : (lenient : Bool) → {A : Type 0} → P A → Sight → Bool
+starts lenient a = first Sight Face Symbol Sort (rule lenient) heads empties a
 
 abbrev pub IsOk : (lenient : Bool) → {A : Type 0} → P A → Type 0
-IsOk lenient a = Decided Sighted Face Symbol Sort face_of (rule lenient) heads empties tails a
+IsOk lenient a = Decided Sight Face Symbol Sort (rule lenient) heads empties tails a
 
 abbrev pub is_solid : (lenient : Bool) → {A : Type 0} → P A → Type 0
-is_solid lenient a = null Sighted Face Symbol Sort face_of (rule lenient) heads empties a ≡ false
+is_solid lenient a = null Sight Face Symbol Sort (rule lenient) heads empties a ≡ false
 
 -- one turn of a repetition
 pub turn : (lenient : Bool) → {A : Type 0} (a : P A) → IsOk lenient a → is_solid lenient a → (d l c : ℕ) (ts : List Sighted)
     → read_part lenient (g.many a) d l c ts ≡ cond (at_first (starts lenient a) ts) (read_part lenient a d l c ts >>= (λ x c' rest. read_part lenient (g.many a) d l c' rest >>= (λ xs c'' r. got (x ∷ xs) c'' r))) (got [] c ts)
 unfolding read
-turn lenient a ok solid d l c ts = many_step Sighted Face Symbol Sort face_of (rule lenient) heads empties tails rank width (is_decided lenient) a ok solid d l c ts
+turn lenient a ok solid d l c ts = many_step Sight Face Symbol Sort (rule lenient) heads empties tails rank width (is_decided lenient) a ok solid d l c ts
 
 -- ---- binds
 
@@ -75,16 +76,16 @@ less_one n = omega arith
 
 -- ---- single tokens
 
-pub one_none : (f : Sighted → Bool) (c : ℕ) (ts : List Sighted) → at_first f ts ≡ false → one face_of f c ts ≡ bad stuck ts
+pub one_none : (f : Sight → Bool) (c : ℕ) (ts : List Sighted) → at_first f ts ≡ false → one f c ts ≡ bad stuck ts
 one_none f c [] h = refl
-one_none f c (t ∷ ts) h = chosen (f t) false (got (face_of t) c ts) (bad stuck (t ∷ ts)) h
+one_none f c (t ∷ ts) h = chosen (f t.sight) false (got t.face c ts) (bad stuck (t ∷ ts)) h
 
 -- a token that is counted, where there is room; and where there is none
-pub counted : (lenient : Bool) → (f : Sighted → Bool) (d l c : ℕ) (ts : List Sighted) → (c ≡ 0 → ⊥) → read_part lenient (g.counts (g.mark f)) d l c ts ≡ one face_of f (c - 1) ts
+pub counted : (lenient : Bool) → (f : Sight → Bool) (d l c : ℕ) (ts : List Sighted) → (c ≡ 0 → ⊥) → read_part lenient (g.counts (g.mark f)) d l c ts ≡ one f (c - 1) ts
 counted lenient f d l zero ts z = absurd (z refl)
-counted lenient f d l (suc c) ts z = ap (λ n. one face_of f n ts) (sym (less_one c))
+counted lenient f d l (suc c) ts z = ap (λ n. one f n ts) (sym (less_one c))
 
-pub counted_full : (lenient : Bool) → (f : Sighted → Bool) (d l c : ℕ) (ts : List Sighted) → c ≡ 0 → at_first f ts ≡ true → read_part lenient (g.counts (g.mark f)) d l c ts ≡ bad full ts
+pub counted_full : (lenient : Bool) → (f : Sight → Bool) (d l c : ℕ) (ts : List Sighted) → c ≡ 0 → at_first f ts ≡ true → read_part lenient (g.counts (g.mark f)) d l c ts ≡ bad full ts
 counted_full lenient f d l zero ts z h = chosen (at_first f ts) true (bad full ts) (bad stuck ts) h
 counted_full lenient f d l (suc c) ts z h = absurd (omega (arith, z))
 
@@ -108,13 +109,13 @@ or_right : (a b : Bool) → b ≡ true → (a || b) ≡ true
 or_right true b e = refl
 or_right false b e = e
 
-pub first_left : (f h : Sighted → Bool) (ts : List Sighted) → at_first f ts ≡ true → at_first (λ t. f t || h t) ts ≡ true
+pub first_left : (f h : Sight → Bool) (ts : List Sighted) → at_first f ts ≡ true → at_first (λ t. f t || h t) ts ≡ true
 first_left f h [] e = e
-first_left f h (t ∷ ts) e = or_left (f t) (h t) e
+first_left f h (t ∷ ts) e = or_left (f t.sight) (h t.sight) e
 
-pub first_right : (f h : Sighted → Bool) (ts : List Sighted) → at_first h ts ≡ true → at_first (λ t. f t || h t) ts ≡ true
+pub first_right : (f h : Sight → Bool) (ts : List Sighted) → at_first h ts ≡ true → at_first (λ t. f t || h t) ts ≡ true
 first_right f h [] e = e
-first_right f h (t ∷ ts) e = or_right (f t) (h t) e
+first_right f h (t ∷ ts) e = or_right (f t.sight) (h t.sight) e
 
 -- ---- repetitions, folded from the left: at their end, and one item on
 module _ (lenient : Bool) {X E : Type 0} (a : P X) (ok : IsOk lenient a) (solid : is_solid lenient a)

@@ -13,15 +13,16 @@ use Rattle.sw_tree.specs.declared.stmt.ArmLabel.TheVariants as arm
 use Rattle.sw_tree.specs.declared.stmt.Pattern.{Pattern}
 use Rattle.sw_tree.specs.declared.stmt.RangeEnd.{RangeEnd}
 use Rattle.sw_tree.specs.declared.expr.Name.{Name}
-use Rattle.sw_syntax.specs.Tokens.{same_kind, Sighted, Face, face_of}
+use Rattle.sw_syntax.specs.declared.class.Sight.{Sight}
+use Rattle.sw_syntax.specs.Tokens.{same_kind, Sighted, Face}
 use Rattle.sw_syntax.specs.Tests.{is, is_name, is_let_or_var, is_any_else, is_assignment, is_range, starts_expr}
-use Rattle.sw_syntax.specs.Values.{or_none, name_of, binding_of, assign_of, range_of, is_place}
-use Rattle.sw_syntax.specs.Forms.{assigned}
+use Rattle.sw_syntax.specs.Values.{or_none, name_of, binding_of, assign_of, is_place}
+use Rattle.sw_syntax.specs.Forms.{range_end, assigned}
 use Rattle.sw_syntax.specs.Symbols.{InBlock, InArm, Open, Closed, Block, Sbody, Stmt', If, Arms, Pat, Cpat, Expr, Type', Body}
 use Rattle.sw_syntax.specs.Parts.{P, ◌·◌, ◌∣◌, tok, place, name, behind, any, whole_expr, whole_type, in_braces}
 use Rattle.sw_syntax.specs.Grammar.{annotation, initial, conds, arm_label, catch}
 use Rattle.sw_syntax.specs.Tables.{heads, starts_arm}
-use Rattle.sw_syntax.specs.Meaning.{read, read_part, Takes}
+use Rattle.sw_syntax.specs.Answering.{read, read_part, Takes}
 use Rattle.sw_syntax.specs.Bodies.{IsNoCondition, IsJump, body_from, behind_body, arms_from, arm_from, label_part, pattern_list, more_patterns, switch_block, arm_list, cond_list, annotation_part, initial_part, assigned_part, loop_name, range_part, catches_from, catch_pattern}
 use Rattle.sw_syntax.proofs.Classes.{apart}
 use Rattle.sw_syntax.proofs.Steps.{step, IsOk, bind_assoc, bind_same, chosen, fold_end, fold_more}
@@ -37,10 +38,10 @@ pub block_deep : (lenient : Bool) → (d l c : ℕ) (ts : List Sighted) → at_f
 block_deep lenient d l c ts h z = step lenient Block d l c ts ∙ ap (λ o. o >>= (λ body c' r. got body.0 c' r)) (braces_deep lenient (g.sym (Sbody InBlock)) d l c ts h z)
 
 pub block_open : (lenient : Bool) → (d l c : ℕ) (ts : List Sighted) (f : Face) (r : List Sighted) → (d ≡ 0 → ⊥) → Takes (is k.LeftBrace) ts f r
-    → read lenient Block d l c ts ≡ (body_from lenient InBlock (d - 1) l c [] r >>= (λ body c' r'. one face_of (is k.RightBrace) c' r' >>= (λ _ c'' r''. got body.0 c'' r'')))
+    → read lenient Block d l c ts ≡ (body_from lenient InBlock (d - 1) l c [] r >>= (λ body c' r'. one (is k.RightBrace) c' r' >>= (λ _ c'' r''. got body.0 c'' r'')))
 block_open lenient d l c ts f r z takes = step lenient Block d l c ts
     ∙ braces_on lenient (g.sym (Sbody InBlock)) d l c ts f r (λ body c' r. got body.0 c' r) z takes
-    ∙ ap (λ o. o >>= (λ body c' r'. one face_of (is k.RightBrace) c' r' >>= (λ _ c'' r''. got body.0 c'' r''))) (body_start lenient InBlock (d - 1) l c r)
+    ∙ ap (λ o. o >>= (λ body c' r'. one (is k.RightBrace) c' r' >>= (λ _ c'' r''. got body.0 c'' r''))) (body_start lenient InBlock (d - 1) l c r)
 
 -- ---- types and values that may be absent
 
@@ -65,14 +66,14 @@ initial_some lenient d l c ts f r h takes = maybe_past lenient (is k.Assign) who
 -- ---- statements that end in an expression
 
 pub open_local : (lenient : Bool) → (d l c : ℕ) (ts : List Sighted) (f : Face) (r : List Sighted) → at_first is_let_or_var ts ≡ true → Takes is_let_or_var ts f r
-    → read lenient (Stmt' Open) d l c ts ≡ (one face_of is_name c r >>= (λ n c1 r1. annotation_part lenient d l c1 r1 >>= (λ t c2 r2. one face_of (is k.Assign) c2 r2 >>= (λ _ c3 r3. read lenient Expr d l l r3 >>= (λ x _ r4.
+    → read lenient (Stmt' Open) d l c ts ≡ (one is_name c r >>= (λ n c1 r1. annotation_part lenient d l c1 r1 >>= (λ t c2 r2. one (is k.Assign) c2 r2 >>= (λ _ c3 r3. read lenient Expr d l l r3 >>= (λ x _ r4.
     got (s.Local f.span (binding_of f.kind) (name_of n) t x) c3 r4)))))
 unfolding annotation_part
 open_local lenient d l c ts f r h takes = step lenient (Stmt' Open) d l c ts ∙ chosen (at_first is_let_or_var ts) true _ _ h
     ∙ led_on lenient is_let_or_var (name · g.maybe annotation · initial) d l c ts f r _ takes
     ∙ both_on lenient name (g.maybe annotation · initial) d l c r _
     ∙ name_on lenient d l c r _
-    ∙ bind_same (one face_of is_name c r) _ _ (λ n c1 r1. both_on lenient (g.maybe annotation) initial d l c1 r1 _
+    ∙ bind_same (one is_name c r) _ _ (λ n c1 r1. both_on lenient (g.maybe annotation) initial d l c1 r1 _
     ∙ bind_same (annotation_part lenient d l c1 r1) _ _ (λ t c2 r2. after_mark_expr lenient k.Assign d l c2 r2 _))
 
 pub open_expr : (lenient : Bool) → (d l c : ℕ) (ts : List Sighted) → at_first is_let_or_var ts ≡ false → at_first starts_expr ts ≡ true
@@ -118,17 +119,17 @@ assigned_some lenient d l c x ts f r h h' takes = ap (assigned_if lenient d l c 
     ∙ limited_on lenient (g.sym Expr) d l c r _
 
 pub open_discard : (lenient : Bool) → (d l c : ℕ) (ts : List Sighted) (f : Face) (r : List Sighted) → at_first is_let_or_var ts ≡ false → at_first starts_expr ts ≡ false → at_first (is k.Underscore) ts ≡ true → Takes (is k.Underscore) ts f r
-    → read lenient (Stmt' Open) d l c ts ≡ (one face_of (is k.Assign) c r >>= (λ _ c1 r1. read lenient Expr d l l r1 >>= (λ x _ r2. got (s.Discard f.span x) c1 r2)))
+    → read lenient (Stmt' Open) d l c ts ≡ (one (is k.Assign) c r >>= (λ _ c1 r1. read lenient Expr d l l r1 >>= (λ x _ r2. got (s.Discard f.span x) c1 r2)))
 open_discard lenient d l c ts f r h0 h1 h takes = step lenient (Stmt' Open) d l c ts ∙ chosen (at_first is_let_or_var ts) false _ _ h0 ∙ chosen (at_first starts_expr ts) false _ _ h1 ∙ chosen (at_first (is k.Underscore) ts) true _ _ h
     ∙ placed_on lenient k.Underscore initial d l c ts f r _ takes
     ∙ after_mark_expr lenient k.Assign d l c r _
 
 pub open_throw : (lenient : Bool) → (d l c : ℕ) (ts : List Sighted) → at_first is_let_or_var ts ≡ false → at_first starts_expr ts ≡ false → at_first (is k.Underscore) ts ≡ false
-    → read lenient (Stmt' Open) d l c ts ≡ (one face_of (is k.Throw) c ts >>= (λ f c1 r1. read lenient Expr d l l r1 >>= (λ x _ r2. got (s.Throw f.span x) c1 r2)))
+    → read lenient (Stmt' Open) d l c ts ≡ (one (is k.Throw) c ts >>= (λ f c1 r1. read lenient Expr d l l r1 >>= (λ x _ r2. got (s.Throw f.span x) c1 r2)))
 open_throw lenient d l c ts h0 h1 h2 = step lenient (Stmt' Open) d l c ts ∙ chosen (at_first is_let_or_var ts) false _ _ h0 ∙ chosen (at_first starts_expr ts) false _ _ h1 ∙ chosen (at_first (is k.Underscore) ts) false _ _ h2
     ∙ both_on lenient (place k.Throw) whole_expr d l c ts _
     ∙ gives_on lenient (λ f. f.span) (tok k.Throw) d l c ts _
-    ∙ bind_same (one face_of (is k.Throw) c ts) _ _ (λ f c1 r1. limited_on lenient (g.sym Expr) d l c1 r1 _)
+    ∙ bind_same (one (is k.Throw) c ts) _ _ (λ f c1 r1. limited_on lenient (g.sym Expr) d l c1 r1 _)
 
 -- ---- statements that do not
 
@@ -136,7 +137,7 @@ pub closed_if : (lenient : Bool) → (d l c : ℕ) (ts : List Sighted) → at_fi
 closed_if lenient d l c ts h = step lenient (Stmt' Closed) d l c ts ∙ chosen (at_first (is k.If) ts) true _ _ h ∙ limited_on lenient (g.sym If) d l c ts _
 
 pub closed_guard : (lenient : Bool) → (d l c : ℕ) (ts : List Sighted) (f : Face) (r : List Sighted) → at_first (is k.If) ts ≡ false → at_first (is k.Guard) ts ≡ true → Takes (is k.Guard) ts f r
-    → read lenient (Stmt' Closed) d l c ts ≡ (cond_list lenient d l c r >>= (λ cs c1 r1. one face_of is_any_else c1 r1 >>= (λ _ c2 r2. read lenient Block d l c2 r2 >>= (λ body c3 r3. got (s.Guard f.span cs body) c3 r3))))
+    → read lenient (Stmt' Closed) d l c ts ≡ (cond_list lenient d l c r >>= (λ cs c1 r1. one is_any_else c1 r1 >>= (λ _ c2 r2. read lenient Block d l c2 r2 >>= (λ body c3 r3. got (s.Guard f.span cs body) c3 r3))))
 unfolding cond_list
 closed_guard lenient d l c ts f r h0 h takes = step lenient (Stmt' Closed) d l c ts ∙ chosen (at_first (is k.If) ts) false _ _ h0 ∙ chosen (at_first (is k.Guard) ts) true _ _ h
     ∙ placed_on lenient k.Guard (conds · behind (g.mark is_any_else) (g.sym Block)) d l c ts f r _ takes
@@ -154,7 +155,7 @@ abbrev loop_name_part : P (Option Name)
 loop_name_part = g.gives Some name ∣ g.gives (λ _. None) (tok k.Underscore)
 
 abbrev range_mark : P RangeEnd
-range_mark = g.gives (λ x. record { operator = range_of x.0.kind; value = x.1 }) (g.mark is_range · whole_expr)
+range_mark = g.gives (λ x. range_end x.0 x.1) (g.mark is_range · whole_expr)
 
 abbrev arms_block : P (List SwitchArm)
 arms_block = in_braces (g.gives or_none (g.maybe (g.sym Arms)))
@@ -175,14 +176,14 @@ closed_later : (lenient : Bool) → (d l c : ℕ) (ts : List Sighted) → IsNoCo
 closed_later lenient d l c ts (h0, h1, h2) = step lenient (Stmt' Closed) d l c ts ∙ chosen (at_first (is k.If) ts) false _ _ h0 ∙ chosen (at_first (is k.Guard) ts) false _ _ h1 ∙ chosen (at_first (is k.While) ts) false _ _ h2
 
 pub closed_for : (lenient : Bool) → (d l c : ℕ) (ts : List Sighted) (f : Face) (r : List Sighted) → IsNoCondition ts → at_first (is k.For) ts ≡ true → Takes (is k.For) ts f r
-    → read lenient (Stmt' Closed) d l c ts ≡ (loop_name lenient d l c r >>= (λ n c1 r1. one face_of (is k.In) c1 r1 >>= (λ _ c2 r2. read lenient Expr d l l r2 >>= (λ x _ r3. range_part lenient d l c2 r3 >>= (λ y c4 r4. read lenient Block d l c4 r4 >>= (λ body c5 r5.
+    → read lenient (Stmt' Closed) d l c ts ≡ (loop_name lenient d l c r >>= (λ n c1 r1. one (is k.In) c1 r1 >>= (λ _ c2 r2. read lenient Expr d l l r2 >>= (λ x _ r3. range_part lenient d l c2 r3 >>= (λ y c4 r4. read lenient Block d l c4 r4 >>= (λ body c5 r5.
     got (s.For f.span n x y body) c5 r5))))))
 unfolding loop_name range_part
 closed_for lenient d l c ts f r h0 h takes = closed_later lenient d l c ts h0 ∙ chosen (at_first (is k.For) ts) true _ _ h
     ∙ placed_on lenient k.For (loop_name_part · tok k.In · whole_expr · g.maybe range_mark · g.sym Block) d l c ts f r _ takes
     ∙ both_on lenient loop_name_part (tok k.In · whole_expr · g.maybe range_mark · g.sym Block) d l c r _
     ∙ bind_same (loop_name lenient d l c r) _ _ (λ n c1 r1. both_on lenient (tok k.In) (whole_expr · g.maybe range_mark · g.sym Block) d l c1 r1 _
-    ∙ bind_same (one face_of (is k.In) c1 r1) _ _ (λ m c2 r2. both_on lenient whole_expr (g.maybe range_mark · g.sym Block) d l c2 r2 _
+    ∙ bind_same (one (is k.In) c1 r1) _ _ (λ m c2 r2. both_on lenient whole_expr (g.maybe range_mark · g.sym Block) d l c2 r2 _
     ∙ limited_on lenient (g.sym Expr) d l c2 r2 _
     ∙ bind_same (read lenient Expr d l l r2) _ _ (λ x c3 r3. both_on lenient (g.maybe range_mark) (g.sym Block) d l c2 r3 _)))
 
@@ -190,7 +191,7 @@ pub loop_name_name : (lenient : Bool) → (d l c : ℕ) (ts : List Sighted) (f :
 unfolding loop_name
 loop_name_name lenient d l c ts f r h takes = chosen (at_first is_name ts) true _ _ h ∙ name_on lenient d l c ts _ ∙ mark_on lenient is_name d l c ts f r _ takes
 
-pub loop_name_none : (lenient : Bool) → (d l c : ℕ) (ts : List Sighted) → at_first is_name ts ≡ false → loop_name lenient d l c ts ≡ (one face_of (is k.Underscore) c ts >>= (λ _ c' r. got None c' r))
+pub loop_name_none : (lenient : Bool) → (d l c : ℕ) (ts : List Sighted) → at_first is_name ts ≡ false → loop_name lenient d l c ts ≡ (one (is k.Underscore) c ts >>= (λ _ c' r. got None c' r))
 unfolding loop_name
 loop_name_none lenient d l c ts h = chosen (at_first is_name ts) false _ _ h
 
@@ -199,10 +200,10 @@ unfolding range_part
 range_none lenient d l c ts h = maybe_none lenient range_mark d l c ts h
 
 pub range_some : (lenient : Bool) → (d l c : ℕ) (ts : List Sighted) (f : Face) (r : List Sighted) → at_first is_range ts ≡ true → Takes is_range ts f r
-    → range_part lenient d l c ts ≡ (read lenient Expr d l l r >>= (λ x _ r'. got (Some (record { operator = range_of f.kind; value = x })) c r'))
+    → range_part lenient d l c ts ≡ (read lenient Expr d l l r >>= (λ x _ r'. got (Some (range_end f x)) c r'))
 unfolding range_part
 range_some lenient d l c ts f r h takes = maybe_some lenient range_mark d l c ts h
-    ∙ gives_on lenient (λ x. record { operator = range_of x.0.kind; value = x.1 }) (g.mark is_range · whole_expr) d l c ts _
+    ∙ gives_on lenient (λ x. range_end x.0 x.1) (g.mark is_range · whole_expr) d l c ts _
     ∙ led_on lenient is_range whole_expr d l c ts f r _ takes
     ∙ limited_on lenient (g.sym Expr) d l c r _
 
@@ -225,7 +226,7 @@ unfolding switch_block
 switch_deep lenient d l c ts h z = braces_deep lenient (g.gives or_none (g.maybe (g.sym Arms))) d l c ts h z
 
 pub switch_open : (lenient : Bool) → (d l c : ℕ) (ts : List Sighted) (f : Face) (r : List Sighted) → (d ≡ 0 → ⊥) → Takes (is k.LeftBrace) ts f r
-    → switch_block lenient d l c ts ≡ (arm_list lenient (d - 1) l c r >>= (λ arms c1 r1. one face_of (is k.RightBrace) c1 r1 >>= (λ _ c2 r2. got arms c2 r2)))
+    → switch_block lenient d l c ts ≡ (arm_list lenient (d - 1) l c r >>= (λ arms c1 r1. one (is k.RightBrace) c1 r1 >>= (λ _ c2 r2. got arms c2 r2)))
 unfolding switch_block arm_list
 switch_open lenient d l c ts f r z takes = braces_open lenient (g.gives or_none (g.maybe (g.sym Arms))) d l c ts f r z takes
 
@@ -239,13 +240,13 @@ arm_list_some lenient d l c ts h = there_on lenient (g.sym Arms) d l c ts _ h
 
 -- an arm: its label, `:`, and from its first statement on
 pub arms_label : (lenient : Bool) → (d l c : ℕ) (arms : List SwitchArm) (ts : List Sighted)
-    → arms_from lenient d l c arms ts ≡ (label_part lenient d l c ts >>= (λ label c1 r1. one face_of (is k.Colon) c1 r1 >>= (λ _ c2 r2. arm_from lenient d l c2 arms label r2)))
+    → arms_from lenient d l c arms ts ≡ (label_part lenient d l c ts >>= (λ label c1 r1. one (is k.Colon) c1 r1 >>= (λ _ c2 r2. arm_from lenient d l c2 arms label r2)))
 unfolding arms_from label_part
 arms_label lenient d l c arms ts = ap (λ o. o >>= (λ others c' r. got (arms ++ others) c' r)) (step lenient Arms d l c ts)
     ∙ gives_on lenient (λ x. record { label = x.0; body = x.1.0 } ∷ x.1.1) (arm_label · behind (tok k.Colon) (g.sym (Sbody InArm))) d l c ts _
     ∙ both_on lenient arm_label (behind (tok k.Colon) (g.sym (Sbody InArm))) d l c ts _
     ∙ bind_same (label_part lenient d l c ts) _ _ (λ label c1 r1. behind_on lenient (tok k.Colon) (g.sym (Sbody InArm)) d l c1 r1 _
-    ∙ bind_same (one face_of (is k.Colon) c1 r1) _ _ (λ m c2 r2. ap (λ o. o >>= (λ body c' r. got (arms ++ record { label = label; body = body.0 } ∷ body.1) c' r)) (body_start lenient InArm d l c2 r2)))
+    ∙ bind_same (one (is k.Colon) c1 r1) _ _ (λ m c2 r2. ap (λ o. o >>= (λ body c' r. got (arms ++ record { label = label; body = body.0 } ∷ body.1) c' r)) (body_start lenient InArm d l c2 r2)))
 
 abbrev arm_ends : List SwitchArm → ArmLabel → Out Sighted Body → Out Sighted (List SwitchArm)
 arm_ends arms label o = o >>= (λ body c' r. got (arms ++ record { label = label; body = body.0 } ∷ body.1) c' r)
@@ -270,7 +271,7 @@ pub label_case : (lenient : Bool) → (d l c : ℕ) (ts : List Sighted) (f : Fac
 unfolding label_part pattern_list
 label_case lenient d l c ts f r h takes = chosen (at_first (is k.Case) ts) true _ _ h ∙ past_on lenient (is k.Case) (any (g.sym Pat)) d l c ts f r _ takes
 
-pub label_default : (lenient : Bool) → (d l c : ℕ) (ts : List Sighted) → at_first (is k.Case) ts ≡ false → label_part lenient d l c ts ≡ (one face_of (is k.Default) c ts >>= (λ _ c' r. got arm.Default c' r))
+pub label_default : (lenient : Bool) → (d l c : ℕ) (ts : List Sighted) → at_first (is k.Case) ts ≡ false → label_part lenient d l c ts ≡ (one (is k.Default) c ts >>= (λ _ c' r. got arm.Default c' r))
 unfolding label_part
 label_default lenient d l c ts h = chosen (at_first (is k.Case) ts) false _ _ h
 
@@ -301,7 +302,7 @@ closed_do lenient d l c ts f r h0 h1 h2 h takes = closed_later lenient d l c ts 
 
 decided_catch : (lenient : Bool) → IsOk lenient catch
 unfolding same_kind
-decided_catch lenient = (tt, ((tt, refl), tt, apart _ _ (λ t. refl) (λ t. refl) refl), apart _ _ (λ t. refl) (λ t. refl) refl)
+decided_catch lenient = (tt, ((tt, refl), tt, apart _ _ refl), apart _ _ refl)
 
 pub catches_end : (lenient : Bool) → (d l c : ℕ) (xs : List Catch) (ts : List Sighted) → at_first (is k.Catch) ts ≡ false → catches_from lenient d l c xs ts ≡ got xs c ts
 unfolding catches_from
@@ -333,6 +334,6 @@ pub closed_break : (lenient : Bool) → (d l c : ℕ) (ts : List Sighted) (f : F
 closed_break lenient d l c ts f r h0 h takes = closed_jump lenient d l c ts h0 ∙ chosen (at_first (is k.Break) ts) true _ _ h
     ∙ gives_on lenient (λ f. f.span) (tok k.Break) d l c ts _ ∙ mark_on lenient (is k.Break) d l c ts f r _ takes
 
-pub closed_continue : (lenient : Bool) → (d l c : ℕ) (ts : List Sighted) → IsJump ts → at_first (is k.Break) ts ≡ false → read lenient (Stmt' Closed) d l c ts ≡ (one face_of (is k.Continue) c ts >>= (λ f c' r. got (s.Continue f.span) c' r))
+pub closed_continue : (lenient : Bool) → (d l c : ℕ) (ts : List Sighted) → IsJump ts → at_first (is k.Break) ts ≡ false → read lenient (Stmt' Closed) d l c ts ≡ (one (is k.Continue) c ts >>= (λ f c' r. got (s.Continue f.span) c' r))
 closed_continue lenient d l c ts h0 h = closed_jump lenient d l c ts h0 ∙ chosen (at_first (is k.Break) ts) false _ _ h
     ∙ gives_on lenient (λ f. f.span) (tok k.Continue) d l c ts _

@@ -8,12 +8,12 @@ use Rattle.sw_grammar.specs.Reading.{Out, got, bad, full, stuck, ◌>>=◌, at_f
 use Rattle.sw_tree.specs.declared.expr.Name.{Name}
 use Rattle.sw_tree.specs.declared.types.«Type».{«Type» as TypeTree}
 use Rattle.sw_tree.specs.declared.types.«Type».TheVariants as tree
-use Rattle.sw_syntax.specs.Tokens.{Sighted, Face, face_of}
+use Rattle.sw_syntax.specs.Tokens.{Sighted, Face}
 use Rattle.sw_syntax.specs.Tests.{is, is_name, is_joined_question}
 use Rattle.sw_syntax.specs.Values.{name_of, optional_of}
 use Rattle.sw_syntax.specs.Symbols.{Type', Base}
 use Rattle.sw_syntax.specs.Parts.{P, ◌·◌, tok, place, name, behind}
-use Rattle.sw_syntax.specs.Meaning.{read, read_part, Takes}
+use Rattle.sw_syntax.specs.Answering.{read, read_part, Takes}
 use Rattle.sw_syntax.specs.Members.{questions, member_type}
 use Rattle.sw_syntax.proofs.Steps.{step, chosen, counted, counted_full, opened, opened_full, less_one, fold_end, fold_more}
 use Rattle.sw_syntax.proofs.PartSteps.{both_on, mark_on, placed_on, place_on, past_on, name_on, there_on, absent_on}
@@ -55,7 +55,7 @@ unfolding member_type
 member_type_none lenient d l c outer ts h = absent_on lenient (behind (tok k.Dot) name) d l c ts _ h
 
 pub member_type_some : (lenient : Bool) → (d l c : ℕ) (outer : Name) (ts : List Sighted) (f : Face) (r : List Sighted) → at_first (is k.Dot) ts ≡ true → Takes (is k.Dot) ts f r
-    → member_type lenient d l c outer ts ≡ (one face_of is_name c r >>= (λ n c' r'. got (tree.Member outer (name_of n)) c' r'))
+    → member_type lenient d l c outer ts ≡ (one is_name c r >>= (λ n c' r'. got (tree.Member outer (name_of n)) c' r'))
 unfolding member_type
 member_type_some lenient d l c outer ts f r h takes = there_on lenient (behind (tok k.Dot) name) d l c ts _ h
     ∙ past_on lenient (is k.Dot) name d l c ts f r _ takes
@@ -94,7 +94,7 @@ pub base_array_full : (lenient : Bool) → (d l c : ℕ) (ts : List Sighted) →
 base_array_full lenient d l c ts h0 h z z' = array_open lenient d l c ts h0 h z ∙ ap (array_back lenient (d - 1) l) (counted_place_full lenient k.LeftBracket (d - 1) l c ts z' h)
 
 pub base_array : (lenient : Bool) → (d l c : ℕ) (ts : List Sighted) (f : Face) (r : List Sighted) → at_first is_name ts ≡ false → at_first (is k.LeftBracket) ts ≡ true → (d ≡ 0 → ⊥) → (c ≡ 0 → ⊥) → Takes (is k.LeftBracket) ts f r
-    → read lenient Base d l c ts ≡ (read lenient Type' (d - 1) l (c - 1) r >>= (λ x c1 r1. one face_of (is k.RightBracket) c1 r1 >>= (λ _ c2 r2. got (tree.Array f.span x) c2 r2)))
+    → read lenient Base d l c ts ≡ (read lenient Type' (d - 1) l (c - 1) r >>= (λ x c1 r1. one (is k.RightBracket) c1 r1 >>= (λ _ c2 r2. got (tree.Array f.span x) c2 r2)))
 base_array lenient d l c ts f r h0 h z z' takes = array_open lenient d l c ts h0 h z
     ∙ ap (array_back lenient (d - 1) l) (counted_place lenient k.LeftBracket (d - 1) l c ts z')
     ∙ place_on lenient k.LeftBracket (d - 1) l (c - 1) ts _
@@ -102,7 +102,7 @@ base_array lenient d l c ts f r h0 h z z' takes = array_open lenient d l c ts h0
     ∙ both_on lenient (g.sym Type') (tok k.RightBracket) (d - 1) l (c - 1) r _
 
 pub base_any : (lenient : Bool) → (d l c : ℕ) (ts : List Sighted) (f : Face) (r : List Sighted) → at_first is_name ts ≡ false → at_first (is k.LeftBracket) ts ≡ false → at_first (is k.Any) ts ≡ true → Takes (is k.Any) ts f r
-    → read lenient Base d l c ts ≡ (one face_of is_name c r >>= (λ n c' r'. got (tree.Any f.span (name_of n)) c' r'))
+    → read lenient Base d l c ts ≡ (one is_name c r >>= (λ n c' r'. got (tree.Any f.span (name_of n)) c' r'))
 base_any lenient d l c ts f r h0 h1 h takes = step lenient Base d l c ts ∙ chosen (at_first is_name ts) false _ _ h0 ∙ chosen (at_first (is k.LeftBracket) ts) false _ _ h1 ∙ chosen (at_first (is k.Any) ts) true _ _ h
     ∙ placed_on lenient k.Any name d l c ts f r _ takes
     ∙ name_on lenient d l c r _
@@ -125,7 +125,7 @@ base_none_deep lenient zero l c ts h0 h1 h2 h z = void_step lenient zero l c ts 
 base_none_deep lenient (suc d) l c ts h0 h1 h2 h z = absurd (omega (arith, z))
 
 pub base_void : (lenient : Bool) → (d l c : ℕ) (ts : List Sighted) → at_first is_name ts ≡ false → at_first (is k.LeftBracket) ts ≡ false → at_first (is k.Any) ts ≡ false → (d ≡ 0 → ⊥)
-    → read lenient Base d l c ts ≡ (one face_of (is k.LeftParen) c ts >>= (λ f c1 r1. one face_of (is k.RightParen) c1 r1 >>= (λ _ c2 r2. got (tree.Void f.span) c2 r2)))
+    → read lenient Base d l c ts ≡ (one (is k.LeftParen) c ts >>= (λ f c1 r1. one (is k.RightParen) c1 r1 >>= (λ _ c2 r2. got (tree.Void f.span) c2 r2)))
 base_void lenient d l c ts h0 h1 h2 z = void_step lenient d l c ts h0 h1 h2 ∙ ap void_of (opened lenient void d l c ts z)
     ∙ both_on lenient (place k.LeftParen) (tok k.RightParen) (d - 1) l c ts _
     ∙ place_on lenient k.LeftParen (d - 1) l c ts _

@@ -17,14 +17,15 @@ use Rattle.sw_tree.specs.declared.stmt.CatchPattern.{CatchPattern}
 use Rattle.sw_tree.specs.declared.stmt.Condition.{Condition}
 use Rattle.sw_tree.specs.declared.stmt.Pattern.{Pattern}
 use Rattle.sw_tree.specs.declared.stmt.RangeEnd.{RangeEnd}
+use Rattle.sw_syntax.specs.declared.class.Sight.{Sight}
 use Rattle.sw_syntax.specs.Tokens.{Sighted}
 use Rattle.sw_syntax.specs.Tests.{is, is_else, is_else_if, is_assignment, is_range, goes_on_line, starts_expr}
-use Rattle.sw_syntax.specs.Values.{or_none, range_of, is_place}
-use Rattle.sw_syntax.specs.Forms.{ahead, assigned, else_if, else_block, branches_of}
+use Rattle.sw_syntax.specs.Values.{or_none, is_place}
+use Rattle.sw_syntax.specs.Forms.{range_end, ahead, assigned, else_if, else_block, branches_of}
 use Rattle.sw_syntax.specs.Symbols.{Place, InArm, Ending, Sbody, AfterStmt, AfterReturn, Block, If, Arms, Cond, Pat, Cpat, Body, Branches}
 use Rattle.sw_syntax.specs.Parts.{P, ◌·◌, ◌∣◌, tok, name, behind, any, whole_expr, in_braces}
 use Rattle.sw_syntax.specs.Grammar.{annotation, initial, conds, branch, arm_label, catch}
-use Rattle.sw_syntax.specs.Meaning.{read, read_part}
+use Rattle.sw_syntax.specs.Answering.{read, read_part}
 use Rattle.sw_syntax.specs.Lists.{more}
 
 -- ---- bodies
@@ -45,7 +46,7 @@ unfoldable pub behind_return : (lenient : Bool) → Place → ℕ → ℕ → �
 behind_return lenient at d l c xs span ts = read lenient (AfterReturn at) d l c ts >>= (λ x c' rest. got (put xs (ahead (s.Return span x.0) x.1)) c' rest)
 
 -- the expression of a `return` begins on its line
-abbrev pub is_returned : Sighted → Bool
+abbrev pub is_returned : Sight → Bool
 is_returned t = goes_on_line t && starts_expr t
 
 -- behind the statements of an arm: another arm, or nothing more
@@ -126,7 +127,7 @@ unfoldable pub loop_name : (lenient : Bool) → ℕ → ℕ → ℕ → List Sig
 loop_name lenient = read_part lenient (gives Some name ∣ gives (λ _. None) (tok k.Underscore))
 
 unfoldable pub range_part : (lenient : Bool) → ℕ → ℕ → ℕ → List Sighted → Out Sighted (Option RangeEnd)
-range_part lenient = read_part lenient (maybe (gives (λ x. record { operator = range_of x.0.kind; value = x.1 }) (mark is_range · whole_expr)))
+range_part lenient = read_part lenient (maybe (gives (λ x. range_end x.0 x.1) (mark is_range · whole_expr)))
 
 -- none of `if`, `guard` and `while` stands first
 abbrev pub IsNoCondition : List Sighted → Type 0

@@ -6,7 +6,7 @@ use Rattle.sw_grammar.specs.Grammar.{sym, maybe, many, counts, mark}
 use Rattle.sw_grammar.specs.Reading.{Out, got, ◌>>=◌, at_first, one}
 use Rattle.sw_tree.specs.declared.expr.Expr.{Expr as ExprTree}
 use Rattle.sw_tree.specs.declared.expr.Argument.{Argument}
-use Rattle.sw_syntax.specs.Tokens.{Sighted, face_of}
+use Rattle.sw_syntax.specs.Tokens.{Sighted}
 use Rattle.sw_syntax.specs.Tests.{is, is_name, is_ternary, starts_literal}
 use Rattle.sw_tree.specs.declared.expr.Expr.TheVariants as e
 use Rattle.sw_tree.specs.declared.expr.Literal.TheVariants as literal
@@ -16,7 +16,7 @@ use Rattle.sw_syntax.specs.Values.{or_none, pieces_of, to_left, to_right, ternar
 use Rattle.sw_syntax.specs.Symbols.{Expr, Form, Arg, Elements}
 use Rattle.sw_syntax.specs.Parts.{◌·◌, tok, place, behind, any}
 use Rattle.sw_syntax.specs.Grammar.{operand, right, try_mark}
-use Rattle.sw_syntax.specs.Meaning.{read_part}
+use Rattle.sw_syntax.specs.Answering.{read_part}
 
 -- `try` or `try?`, if one stands there
 unfoldable pub try_part : (lenient : Bool) → ℕ → ℕ → ℕ → List Sighted → Out Sighted (Option (Span × Bool))
@@ -70,5 +70,5 @@ more_elements lenient d l c xs ts = element_list lenient d l c ts >>= (λ ys c' 
 -- the rest of a string that begins at this place with this text and these expressions, and has come to this one
 unfoldable pub string_rest : (lenient : Bool) → ℕ → ℕ → ℕ → Span → Text → List StringPiece → ExprTree → List Sighted → Out Sighted ExprTree
 string_rest lenient d l c at text pieces x ts =
-    read_part lenient (many (tok k.StringMiddle · sym Expr)) d l c ts >>= (λ xs c1 r1. one face_of (is k.StringLast) c1 r1 >>= (λ last c2 r2.
+    read_part lenient (many (tok k.StringMiddle · sym Expr)) d l c ts >>= (λ xs c1 r1. one (is k.StringLast) c1 r1 >>= (λ last c2 r2.
     got (e.Literal at (literal.String text (pieces ++ pieces_of x xs last))) c2 r2))

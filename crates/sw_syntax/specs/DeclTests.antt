@@ -1,20 +1,20 @@
 -- The tests of a token that statements and declarations make, beside those of expressions.
 use Rattle.std.specs.Prelude.{Bool, ◌||◌}
 use Rattle.sw_lex.specs.declared.token.TokenKind.TheVariants as k
+use Rattle.sw_syntax.specs.declared.class.Sight.{Sight}
 use Rattle.sw_syntax.specs.declared.decl_tests.Opening.{Opening}
 use Rattle.sw_syntax.specs.declared.decl_tests.Opening.TheVariants as opening
-use Rattle.sw_syntax.specs.Tokens.{Sighted}
 use Rattle.sw_syntax.specs.Tests.{is, is_modifier, is_actor, is_get, is_getter, is_else, is_else_if, is_any_else, is_first, is_assignment, is_range, is_other_label, is_payload_label, is_bare_type}
 use Rattle.sw_syntax.specs.Symbols.{Decls, Members, Items, Requirements, Open, Closed, Param, Payload, Pat, Cpat}
 use Rattle.sw_syntax.specs.Grammar.{begins_below}
 use Rattle.sw_syntax.specs.Tables.{heads, starts_item, starts_stmt_of, starts_stmt, starts_arm}
 use Rattle.sw_syntax.specs.Bodies.{is_returned}
 
-abbrev pub starts_bind : Sighted → Bool
+abbrev pub starts_bind : Sight → Bool
 starts_bind t = is k.Let t || is k.Underscore t
 
 -- which tokens pass a test
-abbrev pub stands : Opening → Sighted → Bool
+abbrev pub stands : Opening → Sight → Bool
 stands opening.Modifier = is_modifier
 stands opening.Actor = is_actor
 stands opening.Get = is_get

@@ -5,7 +5,7 @@ use Rattle.sw_lex.specs.declared.token.TokenKind.TheVariants as k
 use Rattle.sw_lex.specs.Bytes.{Text}
 use Rattle.sw_lex.specs.Tables.{is_same_text}
 use Rattle.sw_syntax.specs.Tokens.{Face}
-use Rattle.sw_syntax.specs.Values.{name_of, assign_of}
+use Rattle.sw_syntax.specs.Values.{name_of, assign_of, range_of}
 use Rattle.sw_syntax.specs.Symbols.{Body, Branches}
 use Rattle.sw_tree.specs.declared.expr.Name.{Name}
 use Rattle.sw_tree.specs.declared.expr.Binding.TheVariants as binding
@@ -13,6 +13,7 @@ use Rattle.sw_tree.specs.declared.expr.Expr.{Expr}
 use Rattle.sw_tree.specs.declared.types.«Type».{«Type» as TypeTree}
 use Rattle.sw_tree.specs.declared.stmt.Stmt.{Stmt}
 use Rattle.sw_tree.specs.declared.stmt.Stmt.TheVariants as s
+use Rattle.sw_tree.specs.declared.stmt.RangeEnd.{RangeEnd}
 use Rattle.sw_tree.specs.declared.stmt.Branch.{Branch}
 use Rattle.sw_tree.specs.declared.stmt.SwitchArm.{SwitchArm}
 use Rattle.sw_tree.specs.declared.decl.ModifierKind.{ModifierKind}
@@ -49,6 +50,10 @@ or_bare (Some x) = x
 abbrev pub assigned : Expr → Option (Face × Expr) → Stmt
 assigned x None = s.Expr x
 assigned place (Some x) = s.Assign place (assign_of x.0.kind) x.0.span x.1
+
+-- the second end of a range, behind its mark
+abbrev pub range_end : Face → Expr → RangeEnd
+range_end mark value = record { span = mark.span; operator = range_of mark.kind; value = value }
 
 -- what stands behind an `else`: another `if`, or a block
 abbrev pub else_if : Branches → Branch → Branches

@@ -35,10 +35,11 @@ use Rattle.sw_tree.specs.declared.decl.Accessor.TheVariants as accessor
 use Rattle.sw_tree.specs.declared.decl.Signature.{Signature}
 use Rattle.sw_tree.specs.declared.decl.EnumItem.TheVariants as item
 use Rattle.sw_tree.specs.declared.decl.Requirement.TheVariants as r
-use Rattle.sw_syntax.specs.Tokens.{Sighted, Face}
+use Rattle.sw_syntax.specs.declared.class.Sight.{Sight}
+use Rattle.sw_syntax.specs.Tokens.{Face}
 use Rattle.sw_syntax.specs.Tests.{is_modifier, is_actor, is_get, is_getter, is_let_or_var, is_bool, is_else, is_any_else, is_else_if, is_first, goes_on_line, is_call, is_index, is_force, is_joined_question, is_ternary, is_sign, is_effect, is_binary, is_assignment, is_range, is_label, is_unlabelled, is_payload_label, is_bare_type, is_other_label, is_no_getter, goes_on_below}
-use Rattle.sw_syntax.specs.Values.{or_none, or_some, name_of, binding_of, prefix_of, range_of, bool_of, pieces_of, integer_of, to_left, to_right, ternary_of, with_forms, awaited, tried, is_place, optional_of, named}
-use Rattle.sw_syntax.specs.Forms.{or_empty, ahead, only_arms, or_bare, assigned, else_if, else_block, branches_of, modifier_of, stored_var, initial_var, computed_var, typed_var, or_untyped, or_no_statement, own_or_other, other_label}
+use Rattle.sw_syntax.specs.Values.{or_none, or_some, name_of, binding_of, prefix_of, bool_of, pieces_of, integer_of, to_left, to_right, ternary_of, with_forms, awaited, tried, is_place, optional_of, named}
+use Rattle.sw_syntax.specs.Forms.{range_end, or_empty, ahead, only_arms, or_bare, assigned, else_if, else_block, branches_of, modifier_of, stored_var, initial_var, computed_var, typed_var, or_untyped, or_no_statement, own_or_other, other_label}
 use Rattle.sw_syntax.specs.Symbols.{Listed, Decls, Members, Items, Requirements, Place, InBlock, InArm, Ending, Open, Closed, Symbol, File, Some', Rest, Item, Param, Case, Payload, Type', Base, Block, Sbody, Stmts, AfterStmt, AfterReturn, Stmt', If, Arms, Cond, Pat, Cpat, Expr, Tern, Bin, Prefix, Post, Form, Arg, Prim, Elements, ItemTree, Body, Sort}
 use Rattle.sw_syntax.specs.Parts.{P, ◌·◌, ◌∣◌, tok, place, name, present, behind, some, any, in_parens, in_braces, whole_expr, whole_type}
 
@@ -51,10 +52,10 @@ literal_with inner =
     gives (λ f. (f.span, integer_of f)) (tok k.Integer)
     ∣ gives (λ f. (f.span, literal.Bool (bool_of f.kind))) (mark is_bool)
     ∣ gives (λ f. (f.span, literal.String f.text [])) (tok k.StringWhole)
-    ∣ gives (λ x. (x.0.span, literal.String x.0.text (pieces_of x.1.0 x.1.1.0 x.1.1.1)))
+    ∣ gives (λ (start, (first, (others, last))). (start.span, literal.String start.text (pieces_of first others last)))
     (nest (tok k.StringStart · inner · many (tok k.StringMiddle · inner) · tok k.StringLast))
 
--- try ??
+-- try, and perhaps a `?` that touches it
 abbrev pub try_mark : P (Span × Bool)
 try_mark = place k.Try · present (mark is_joined_question)
 
@@ -71,18 +72,18 @@ right true n = sym (Bin n) ∣ gives (λ f. e.Nil f.span) (mark is_effect)
 -- bin = prefix (op prefix)*, by the strength of the marks: those of most strengths go to the left,
 -- comparisons are not chained, and `??` goes to the right
 abbrev pub leftward : Bool → ℕ → P ExprTree
-leftward lenient n = gives (λ x. to_left x.0 x.1) (sym (Bin (suc n)) · many (operand n (right lenient (suc n))))
+leftward lenient n = gives (λ (left, others). to_left left others) (sym (Bin (suc n)) · many (operand n (right lenient (suc n))))
 
 -- The lenient grammar chains comparisons.
 abbrev pub comparing : Bool → P ExprTree
-comparing false = gives (λ x. to_right x.0 x.1) (sym (Bin 3) · maybe (operand 2 (right false 3)))
+comparing false = gives (λ (left, right). to_right left right) (sym (Bin 3) · maybe (operand 2 (right false 3)))
 comparing true = leftward true 2
 
 abbrev pub binary : Bool → ℕ → P ExprTree
 binary lenient zero = leftward lenient 0
 binary lenient (suc zero) = leftward lenient 1
 binary lenient (suc (suc zero)) = comparing lenient
-binary lenient (suc (suc (suc zero))) = gives (λ x. to_right x.0 x.1) (sym (Bin 4) · maybe (operand 3 (right lenient 3)))
+binary lenient (suc (suc (suc zero))) = gives (λ (left, right). to_right left right) (sym (Bin 4) · maybe (operand 3 (right lenient 3)))
 binary lenient (suc (suc (suc (suc zero)))) = leftward lenient 4
 binary lenient (suc (suc (suc (suc (suc zero))))) = leftward lenient 5
 binary lenient (suc (suc (suc (suc (suc (suc n)))))) = sym Prefix
@@ -113,18 +114,18 @@ conds = some (sym Cond)
 
 -- if conds block
 abbrev pub branch : P Branch
-branch = gives (λ x. record { span = x.0; conditions = x.1.0; body = x.1.1 }) (place k.If · conds · sym Block)
+branch = gives (λ (span, (conditions, body)). record { span = span; conditions = conditions; body = body }) (place k.If · conds · sym Block)
 
--- case pat,* | default
+-- case pat,* | default, where there may be no pattern
 abbrev pub arm_label : P ArmLabel
 arm_label = gives arm.Case (behind (tok k.Case) (any (sym Pat))) ∣ gives (λ _. arm.Default) (tok k.Default)
 
 -- catch cpat? block
 abbrev pub catch : P Catch
-catch = gives (λ x. record { span = x.0; pattern = x.1.0; body = x.1.1 }) (place k.Catch · maybe (sym Cpat) · sym Block)
+catch = gives (λ (span, (pattern, body)). record { span = span; pattern = pattern; body = body }) (place k.Catch · maybe (sym Cpat) · sym Block)
 
 -- the token may begin a statement behind one with this ending, at the start of a line
-abbrev pub begins_below : Ending → Sighted → Bool
+abbrev pub begins_below : Ending → Sight → Bool
 begins_below Open t = is_first t && not (goes_on_below t)
 begins_below Closed t = is_first t
 
@@ -141,19 +142,19 @@ next_stmts InArm ending =
 -- a statement that is no `return`
 abbrev pub statement : Ending → P Stmt
 statement Open =
-    gives (λ x. s.Local x.0.span (binding_of x.0.kind) x.1.0 x.1.1.0 x.1.1.1) (mark is_let_or_var · name · maybe annotation · initial)
-    ∣ gives (λ x. assigned x.0 x.1) (then_if whole_expr is_place (mark is_assignment · whole_expr))
-    ∣ gives (λ x. s.Discard x.0 x.1) (place k.Underscore · initial)
-    ∣ gives (λ x. s.Throw x.0 x.1) (place k.Throw · whole_expr)
+    gives (λ (word, (name, (declared, value))). s.Local word.span (binding_of word.kind) name declared value) (mark is_let_or_var · name · maybe annotation · initial)
+    ∣ gives (λ (place, value). assigned place value) (then_if whole_expr is_place (mark is_assignment · whole_expr))
+    ∣ gives (λ (span, value). s.Discard span value) (place k.Underscore · initial)
+    ∣ gives (λ (span, value). s.Throw span value) (place k.Throw · whole_expr)
 statement Closed =
-    gives (λ x. s.If x.0 x.1.0 x.1.1) (limited (sym If))
-    ∣ gives (λ x. s.Guard x.0 x.1.0 x.1.1) (place k.Guard · conds · behind (mark is_any_else) (sym Block))
-    ∣ gives (λ x. s.While x.0 x.1.0 x.1.1) (place k.While · conds · sym Block)
-    ∣ gives (λ x. s.For x.0 x.1.0 x.1.1.1.0 x.1.1.1.1.0 x.1.1.1.1.1)
+    gives (λ (first, (others, block)). s.If first others block) (limited (sym If))
+    ∣ gives (λ (span, (conditions, body)). s.Guard span conditions body) (place k.Guard · conds · behind (mark is_any_else) (sym Block))
+    ∣ gives (λ (span, (conditions, body)). s.While span conditions body) (place k.While · conds · sym Block)
+    ∣ gives (λ (span, (name, (_, (first, (last, body))))). s.For span name first last body)
     (place k.For · (gives Some name ∣ gives (λ _. None) (tok k.Underscore)) · tok k.In · whole_expr
-    · maybe (gives (λ x. record { operator = range_of x.0.kind; value = x.1 }) (mark is_range · whole_expr)) · sym Block)
-    ∣ gives (λ x. s.Switch x.0 x.1.0 x.1.1) (place k.Switch · whole_expr · in_braces (gives or_none (maybe (sym Arms))))
-    ∣ gives (λ x. s.Do x.0 x.1.0 x.1.1) (place k.Do · sym Block · many catch)
+    · maybe (gives (λ (sign, value). range_end sign value) (mark is_range · whole_expr)) · sym Block)
+    ∣ gives (λ (span, (value, arms)). s.Switch span value arms) (place k.Switch · whole_expr · in_braces (gives or_none (maybe (sym Arms))))
+    ∣ gives (λ (span, (body, catches)). s.Do span body catches) (place k.Do · sym Block · many catch)
     ∣ gives s.Break (place k.Break)
     ∣ gives s.Continue (place k.Continue)
 
@@ -169,11 +170,11 @@ mods = many (gives modifier_of (mark is_modifier))
 
 -- name conf?, where conf = : name,*  (at least one)
 abbrev pub heading : P (List Modifier → Heading)
-heading = gives (λ x modifiers. record { modifiers = modifiers; name = x.0; conformances = or_none x.1 }) (name · maybe (behind (tok k.Colon) (some name)))
+heading = gives (λ (name, conformances) modifiers. record { modifiers = modifiers; name = name; conformances = or_none conformances }) (name · maybe (behind (tok k.Colon) (some name)))
 
 -- typealias name = type
 abbrev pub typealias : P Typealias
-typealias = gives (λ x. record { span = x.0; name = x.1.0; target = x.1.1 }) (place k.Typealias · name · behind (tok k.Assign) whole_type)
+typealias = gives (λ (span, (name, target)). record { span = span; name = name; target = target }) (place k.Typealias · name · behind (tok k.Assign) whole_type)
 
 -- ( param,* )
 abbrev pub params : P (List Parameter)
@@ -182,17 +183,17 @@ params = in_parens (any (sym Param))
 -- func name ( param,* ) async? throws? (-> type)?
 abbrev pub signature : P (List Modifier → Signature)
 signature =
-    gives (λ x modifiers. record { modifiers = modifiers; name = x.0; type_parameters = []; parameters = x.1.0; is_async = x.1.1.0; throws = x.1.1.1.0; result = x.1.1.1.1 })
+    gives (λ (name, (parameters, (is_async, (throws, result)))) modifiers. record { modifiers = modifiers; name = name; type_parameters = []; parameters = parameters; is_async = is_async; throws = throws; result = result })
     (behind (tok k.Func) (name · params · present (tok k.Async) · present (tok k.Throws) · maybe (behind (tok k.Arrow) whole_type)))
 
 -- struct name conf? { (member sep)* } | enum .. | protocol .. | actor .. | func, behind mods
 abbrev pub modified_decl : P (List Modifier → Decl)
 modified_decl =
-    gives (λ x modifiers. d.Struct (x.0 modifiers) x.1) (behind (tok k.Struct) (heading · in_braces (list_of Members)))
-    ∣ gives (λ x modifiers. d.Enum (x.0 modifiers) x.1) (behind (tok k.Enum) (heading · in_braces (list_of Items)))
-    ∣ gives (λ x modifiers. d.Protocol (x.0 modifiers) x.1) (behind (tok k.Protocol) (heading · in_braces (list_of Requirements)))
-    ∣ gives (λ x modifiers. d.Actor (x.0 modifiers) x.1) (behind (mark is_actor) (heading · in_braces (list_of Members)))
-    ∣ gives (λ x modifiers. d.Func (record { signature = x.0 modifiers; body = x.1 })) (signature · sym Block)
+    gives (λ (heading, members) modifiers. d.Struct (heading modifiers) members) (behind (tok k.Struct) (heading · in_braces (list_of Members)))
+    ∣ gives (λ (heading, items) modifiers. d.Enum (heading modifiers) items) (behind (tok k.Enum) (heading · in_braces (list_of Items)))
+    ∣ gives (λ (heading, requirements) modifiers. d.Protocol (heading modifiers) requirements) (behind (tok k.Protocol) (heading · in_braces (list_of Requirements)))
+    ∣ gives (λ (heading, members) modifiers. d.Actor (heading modifiers) members) (behind (mark is_actor) (heading · in_braces (list_of Members)))
+    ∣ gives (λ (signature, body) modifiers. d.Func (record { signature = signature modifiers; body = body })) (signature · sym Block)
 
 -- { (sbody | get block) }
 abbrev pub getter : P Accessor
@@ -203,48 +204,48 @@ getter = gives or_no_statement (in_braces (maybe (
 -- let name (: type)? (= expr)?, behind mods
 abbrev pub let_property : P (List Modifier → Member)
 let_property =
-    gives (λ x modifiers. m.Stored (record { modifiers = modifiers; binding = binding.Let; name = x.0; declared = x.1.0; initial = x.1.1 }))
+    gives (λ (name, (declared, initial)) modifiers. m.Stored (record { modifiers = modifiers; binding = binding.Let; name = name; declared = declared; initial = initial }))
     (behind (tok k.Let) (name · maybe annotation · maybe initial))
 
 -- var name (: type)? (= expr)? | var name : type { (sbody | get block) }, behind mods
 abbrev pub var_property : P (List Modifier → Member)
 var_property =
-    gives (λ x modifiers. or_untyped x.1 modifiers x.0)
+    gives (λ (name, rest) modifiers. or_untyped rest modifiers name)
     (behind (tok k.Var) (name · maybe (
-    gives (λ x. typed_var x.0 x.1) (annotation · maybe (gives initial_var initial ∣ gives computed_var getter))
+    gives (λ (declared, rest). typed_var declared rest) (annotation · maybe (gives initial_var initial ∣ gives computed_var getter))
     ∣ gives (λ x. stored_var None (Some x)) initial)))
 
 -- init ( param,* ) throws? block, behind mods
 abbrev pub initializer : P (List Modifier → Member)
 initializer =
-    gives (λ x modifiers. m.Initializer (record { modifiers = modifiers; span = x.0; parameters = x.1.0; throws = x.1.1.0; body = x.1.1.1 }))
+    gives (λ (span, (parameters, (throws, body))) modifiers. m.Initializer (record { modifiers = modifiers; span = span; parameters = parameters; throws = throws; body = body }))
     (place k.Init · params · present (tok k.Throws) · sym Block)
 
 abbrev pub modified_member : P (List Modifier → Member)
 modified_member =
     let_property
     ∣ var_property
-    ∣ gives (λ x modifiers. m.Func (record { signature = x.0 modifiers; body = x.1 })) (signature · sym Block)
+    ∣ gives (λ (signature, body) modifiers. m.Func (record { signature = signature modifiers; body = body })) (signature · sym Block)
     ∣ initializer
 
 abbrev pub item_of : (l : Listed) → P (ItemTree l)
 -- decl = import name | typealias name = type | nominal | func
 item_of Decls =
-    gives (λ x. d.Import x.0 x.1) (place k.Import · name)
+    gives (λ (span, name). d.Import span name) (place k.Import · name)
     ∣ gives d.Typealias typealias
-    ∣ gives (λ x. x.1 x.0) (mods · modified_decl)
--- member = prop | func | initial | typealias name = type
+    ∣ gives (λ (modifiers, decl). decl modifiers) (mods · modified_decl)
+-- member = typealias name = type | mods (let .. | var .. | func .. | init ..)
 item_of Members =
     gives m.Typealias typealias
-    ∣ gives (λ x. x.1 x.0) (mods · modified_member)
+    ∣ gives (λ (modifiers, member). member modifiers) (mods · modified_member)
 -- case | member, where case = case (name (( (name :)? type ,* ))?),*  (at least one)
 item_of Items =
     gives item.Cases (behind (tok k.Case) (some (sym Case)))
     ∣ gives item.Member (sym (Item Members))
 -- req = mods func name ( param,* ) async? throws? (-> type)? | var name : type { get }
 item_of Requirements =
-    gives (λ x. r.Property x.0 x.1.0) (behind (tok k.Var) (name · annotation · in_braces (mark is_get)))
-    ∣ gives (λ x. r.Func (x.1 x.0)) (mods · signature)
+    gives (λ (name, (declared, _)). r.Property name declared) (behind (tok k.Var) (name · annotation · in_braces (mark is_get)))
+    ∣ gives (λ (modifiers, signature). r.Func (signature modifiers)) (mods · signature)
 
 -- ---- the productions
 
@@ -253,93 +254,93 @@ item_of Requirements =
 
 abbrev pub rule : Bool → (x : Symbol) → P (Sort x)
 -- file = (decl sep)*
-rule lenient File = gives (λ x. record { decls = x.0 }) (list_of Decls · tok k.End)
+rule lenient File = gives (λ (decls, _). record { decls = decls }) (list_of Decls · tok k.End)
 -- (item sep)*, with at least one item: sep is `;` or a line break, and may be absent at the end
-rule lenient (Some' l) = gives (λ x. x.0 ∷ x.1) (sym (Item l) · sym (Rest l))
+rule lenient (Some' l) = gives (λ (item, others). item ∷ others) (sym (Item l) · sym (Rest l))
 rule lenient (Rest l) = gives or_none (maybe (behind (tok k.Semicolon) (list_of l) ∣ when is_first (sym (Some' l))))
 rule lenient (Item l) = item_of l
 -- param = (name | _)? name : inout? type ...?
 rule lenient Param =
-    gives (λ x. record { label = x.0.0; name = x.0.1; inout = x.1.0; declared = x.1.1.0; variadic = x.1.1.1 })
-    ((gives (λ x. own_or_other x.0 x.1) (name · maybe name) ∣ gives (λ x. other_label x.0 x.1) (mark is_other_label · name))
+    gives (λ ((label, name), (inout, (declared, variadic))). record { label = label; name = name; inout = inout; declared = declared; variadic = variadic })
+    ((gives (λ (first, second). own_or_other first second) (name · maybe name) ∣ gives (λ (label, name). other_label label name) (mark is_other_label · name))
     · behind (tok k.Colon) (maybe (place k.Inout) · whole_type · maybe (place k.Ellipsis)))
 -- name (( (name :)? type ,* ))?
-rule lenient Case = gives (λ x. record { name = x.0; payload = x.1 }) (name · maybe (in_parens (any (sym Payload))))
+rule lenient Case = gives (λ (name, payload). record { name = name; payload = payload }) (name · maybe (in_parens (any (sym Payload))))
 -- (name :)? type
 rule lenient Payload =
-    gives (λ x. record { label = Some (name_of x.0); declared = x.1 }) (mark is_payload_label · annotation)
-    ∣ gives (λ x. record { label = None; declared = x }) (when is_bare_type whole_type)
+    gives (λ (label, declared). record { label = Some (name_of label); declared = declared }) (mark is_payload_label · annotation)
+    ∣ gives (λ declared. record { label = None; declared = declared }) (when is_bare_type whole_type)
 -- type = base ?*
-rule lenient Type' = gives (λ x. optional_of x.0 x.1) (sym Base · many (counts (mark is_joined_question)))
+rule lenient Type' = gives (λ (base, marks). optional_of base marks) (sym Base · many (counts (mark is_joined_question)))
 -- base = name | name . name | [ type ] | any name | ( )
 rule lenient Base =
-    gives (λ x. named x.0 x.1) (name · maybe (behind (tok k.Dot) name))
-    ∣ gives (λ x. t.Array x.0 x.1.0) (nest (counts (place k.LeftBracket) · sym Type' · tok k.RightBracket))
-    ∣ gives (λ x. t.Any x.0 x.1) (place k.Any · name)
-    ∣ gives (λ x. t.Void x.0) (nest (place k.LeftParen · tok k.RightParen))
+    gives (λ (name, member). named name member) (name · maybe (behind (tok k.Dot) name))
+    ∣ gives (λ (span, (element, _)). t.Array span element) (nest (counts (place k.LeftBracket) · sym Type' · tok k.RightBracket))
+    ∣ gives (λ (span, name). t.Any span name) (place k.Any · name)
+    ∣ gives (λ (span, _). t.Void span) (nest (place k.LeftParen · tok k.RightParen))
 -- block = { sbody }
-rule lenient Block = gives (λ body. body.0) (in_braces (sym (Sbody InBlock)))
+rule lenient Block = gives (λ (statements, _). statements) (in_braces (sym (Sbody InBlock)))
 -- sbody = (stmt sep)*
 rule lenient (Sbody InBlock) = gives or_empty (maybe (sym (Stmts InBlock)))
 rule lenient (Sbody InArm) = gives or_empty (maybe (sym (Stmts InArm) ∣ gives only_arms (sym Arms)))
 -- stmt = .. | return expr? | ..
 rule lenient (Stmts at) =
-    gives (λ x. ahead x.0 x.1) (sym (Stmt' Open) · sym (AfterStmt at Open))
-    ∣ gives (λ x. ahead x.0 x.1) (sym (Stmt' Closed) · sym (AfterStmt at Closed))
-    ∣ gives (λ x. ahead (s.Return x.0 x.1.0) x.1.1) (place k.Return · sym (AfterReturn at))
+    gives (λ (statement, body). ahead statement body) (sym (Stmt' Open) · sym (AfterStmt at Open))
+    ∣ gives (λ (statement, body). ahead statement body) (sym (Stmt' Closed) · sym (AfterStmt at Closed))
+    ∣ gives (λ (span, (value, body)). ahead (s.Return span value) body) (place k.Return · sym (AfterReturn at))
 rule lenient (AfterStmt at ending) = gives or_empty (maybe (next_stmts at ending))
 rule lenient (AfterReturn at) = gives or_bare (maybe (
-    gives (λ x. (Some x.0, x.1)) (when goes_on_line whole_expr · sym (AfterStmt at Open))
+    gives (λ (value, body). (Some value, body)) (when goes_on_line whole_expr · sym (AfterStmt at Open))
     ∣ gives (λ body. (None, body)) (next_stmts at Closed)))
 rule lenient (Stmt' ending) = statement ending
 -- if conds block (else (block | if-stmt))?
 rule lenient If =
-    gives (λ x. branches_of x.0 x.1)
+    gives (λ (first, rest). branches_of first rest)
     (branch · maybe (
     gives else_block (behind (mark is_else) (sym Block))
     ∣ gives else_if (behind (counts (mark is_else_if)) (sym If))))
--- ((case pat,* | default) : sbody)*, with at least one
-rule lenient Arms = gives (λ x. record { label = x.0; body = x.1.0 } ∷ x.1.1) (arm_label · behind (tok k.Colon) (sym (Sbody InArm)))
+-- (arm_label : sbody)*, with at least one
+rule lenient Arms = gives (λ (label, (body, arms)). record { label = label; body = body } ∷ arms) (arm_label · behind (tok k.Colon) (sym (Sbody InArm)))
 -- cond = expr | (let | var) name (= expr)?
 rule lenient Cond =
     gives c.Expr whole_expr
-    ∣ gives (λ x. c.Bind (binding_of x.0.kind) x.1.0 x.1.1) (mark is_let_or_var · name · maybe initial)
+    ∣ gives (λ (word, (name, value)). c.Bind (binding_of word.kind) name value) (mark is_let_or_var · name · maybe initial)
 -- pat = _ | literal | nil | name? . name (( bind,* ))?
 rule lenient Pat =
     gives p.Any (place k.Underscore)
-    ∣ gives (λ x. p.Literal x.0 x.1) (literal_with whole_expr)
+    ∣ gives (λ (span, value). p.Literal span value) (literal_with whole_expr)
     ∣ gives p.Nil (place k.Nil)
-    ∣ gives (λ x. p.Case x.0 x.1.0 x.1.1.0 x.1.1.1) (maybe name · place k.Dot · name · maybe binds)
+    ∣ gives (λ (outer, (span, (name, binds))). p.Case outer span name binds) (maybe name · place k.Dot · name · maybe binds)
 -- cpat = let name as name | name . name (( bind,* ))?
 rule lenient Cpat =
-    gives (λ x. cp.As x.0 x.1) (behind (tok k.Let) (name · behind (tok k.As) name))
-    ∣ gives (λ x. cp.Case x.0 x.1.0 x.1.1) (name · behind (tok k.Dot) (name · maybe binds))
--- expr = (try ??)? await? tern
-rule lenient Expr = gives (λ x. tried x.0 (awaited x.1.0 x.1.1)) (maybe try_mark · maybe (place k.Await) · sym Tern)
+    gives (λ (name, target). cp.As name target) (behind (tok k.Let) (name · behind (tok k.As) name))
+    ∣ gives (λ (outer, (name, binds)). cp.Case outer name binds) (name · behind (tok k.Dot) (name · maybe binds))
+-- expr = try_mark? await? tern
+rule lenient Expr = gives (λ (try_at, (await_at, value)). tried try_at (awaited await_at value)) (maybe try_mark · maybe (place k.Await) · sym Tern)
 -- tern = bin (? expr : expr)?
-rule lenient Tern = gives (λ x. ternary_of x.0 x.1) (sym (Bin 0) · maybe (behind (counts (mark is_ternary)) (sym Expr · behind (tok k.Colon) (sym Expr))))
+rule lenient Tern = gives (λ (condition, branches). ternary_of condition branches) (sym (Bin 0) · maybe (behind (counts (mark is_ternary)) (sym Expr · behind (tok k.Colon) (sym Expr))))
 rule lenient (Bin n) = binary lenient n
 -- prefix = (- | !)* post
-rule lenient Prefix = gives (λ x. e.Prefix (prefix_of x.0.kind) x.0.span x.1) (counts (mark is_sign) · sym Prefix) ∣ sym Post
+rule lenient Prefix = gives (λ (sign, value). e.Prefix (prefix_of sign.kind) sign.span value) (counts (mark is_sign) · sym Prefix) ∣ sym Post
 -- post = prim (. name | ( arg,* ) | [ expr ] | !)*
-rule lenient Post = gives (λ x. with_forms x.0 x.1) (sym Prim · many (sym Form))
+rule lenient Post = gives (λ (base, forms). with_forms base forms) (sym Prim · many (sym Form))
 rule lenient Form =
     gives (λ member base. e.Member base member) (behind (counts (tok k.Dot)) name)
-    ∣ gives (λ x base. e.Call base (x.0.span, x.1.0)) (nest (counts (mark is_call) · any (sym Arg) · tok k.RightParen))
-    ∣ gives (λ x base. e.Index base (x.0.span, x.1.0)) (nest (counts (mark is_index) · sym Expr · tok k.RightBracket))
-    ∣ gives (λ f base. e.Force base f.span) (counts (mark is_force))
+    ∣ gives (λ (opening, (arguments, _)) base. e.Call base (opening.span, arguments)) (nest (counts (mark is_call) · any (sym Arg) · tok k.RightParen))
+    ∣ gives (λ (opening, (index, _)) base. e.Index base (opening.span, index)) (nest (counts (mark is_index) · sym Expr · tok k.RightBracket))
+    ∣ gives (λ sign base. e.Force base sign.span) (counts (mark is_force))
 -- arg = (name :)? expr
 rule lenient Arg =
-    gives (λ x. record { label = Some (name_of x.0); value = x.1 }) (mark is_label · behind (tok k.Colon) (sym Expr))
-    ∣ gives (λ x. record { label = None; value = x }) (when is_unlabelled (sym Expr))
--- prim = literal | nil | name | self | . name | ( expr ) | [ expr,* ]
+    gives (λ (label, value). record { label = Some (name_of label); value = value }) (mark is_label · behind (tok k.Colon) (sym Expr))
+    ∣ gives (λ value. record { label = None; value = value }) (when is_unlabelled (sym Expr))
+-- prim = literal | nil | name | self | . name | ( expr ) | [ elements? ]
 rule lenient Prim =
-    gives (λ x. e.Literal x.0 x.1) (literal_with (sym Expr))
+    gives (λ (span, value). e.Literal span value) (literal_with (sym Expr))
     ∣ gives e.Nil (place k.Nil)
     ∣ gives e.Name name
     ∣ gives e.SelfValue (place k.Self_)
-    ∣ gives (λ x. e.Implicit x.0 x.1) (place k.Dot · name)
-    ∣ gives (λ x. e.Paren x.0 x.1.0) (nest (place k.LeftParen · sym Expr · tok k.RightParen))
-    ∣ gives (λ x. e.Array x.0 (or_none x.1.0)) (nest (place k.LeftBracket · maybe (sym Elements) · tok k.RightBracket))
--- expr,* with at least one: a comma may follow the last
-rule lenient Elements = gives (λ x. x.0 ∷ or_none (or_some x.1)) (sym Expr · maybe (behind (tok k.Comma) (maybe (sym Elements))))
+    ∣ gives (λ (span, name). e.Implicit span name) (place k.Dot · name)
+    ∣ gives (λ (span, (value, _)). e.Paren span value) (nest (place k.LeftParen · sym Expr · tok k.RightParen))
+    ∣ gives (λ (span, (elements, _)). e.Array span (or_none elements)) (nest (place k.LeftBracket · maybe (sym Elements) · tok k.RightBracket))
+-- elements = expr,* with at least one: a comma may follow the last
+rule lenient Elements = gives (λ (first, others). first ∷ or_none (or_some others)) (sym Expr · maybe (behind (tok k.Comma) (maybe (sym Elements))))

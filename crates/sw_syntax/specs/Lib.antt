@@ -7,8 +7,11 @@ pub mod Forms
 pub mod Grammar
 pub mod Tables
 pub mod Meaning
+pub mod Answering
 pub mod Refusals
+pub mod Finding
 pub mod Sights
+pub mod Broken
 pub mod Reading
 pub mod Chains
 pub mod Lists
@@ -16,3 +19,5 @@ pub mod Bodies
 pub mod Patterns
 pub mod Members
 pub mod DeclTests
+pub mod Reader
+pub mod Reaching

@@ -7,7 +7,7 @@ use Rattle.sw_syntax.specs.Tokens.{Sighted}
 use Rattle.sw_syntax.specs.Symbols.{Listed, Rest, ItemTree}
 use Rattle.sw_syntax.specs.Parts.{P, tok, behind}
 use Rattle.sw_syntax.specs.Grammar.{list_of}
-use Rattle.sw_syntax.specs.Meaning.{read, read_part}
+use Rattle.sw_syntax.specs.Answering.{read, read_part}
 
 -- items with commas between, behind the first ones
 unfoldable pub more : (lenient : Bool) → {A : Type 0} → P A → ℕ → ℕ → ℕ → List A → List Sighted → Out Sighted (List A)

@@ -26,7 +26,7 @@ use Rattle.sw_syntax.specs.Forms.{initial_var, computed_var, typed_var, or_untyp
 use Rattle.sw_syntax.specs.Symbols.{Listed, InBlock, Param, Case, Payload, Block, Stmts, ItemTree}
 use Rattle.sw_syntax.specs.Parts.{◌·◌, ◌∣◌, tok, place, name, present, behind, some, any, in_parens, in_braces, whole_type}
 use Rattle.sw_syntax.specs.Grammar.{annotation, initial, list_of, mods, heading, typealias, params, signature, getter, modified_decl, modified_member}
-use Rattle.sw_syntax.specs.Meaning.{read_part}
+use Rattle.sw_syntax.specs.Answering.{read_part}
 use Rattle.sw_syntax.specs.Lists.{more}
 
 -- ---- types

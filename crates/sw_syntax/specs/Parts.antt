@@ -7,13 +7,14 @@ use Rattle.sw_grammar.specs.Grammar.{Part, mark, sym, both, either, maybe, many,
 use Rattle.sw_tree.specs.declared.expr.Name.{Name}
 use Rattle.sw_tree.specs.declared.expr.Expr.{Expr as ExprTree}
 use Rattle.sw_tree.specs.declared.types.«Type».{«Type» as TypeTree}
-use Rattle.sw_syntax.specs.Tokens.{Sighted, Face}
+use Rattle.sw_syntax.specs.declared.class.Sight.{Sight}
+use Rattle.sw_syntax.specs.Tokens.{Face}
 use Rattle.sw_syntax.specs.Tests.{is, is_name}
 use Rattle.sw_syntax.specs.Values.{or_none, is_some, name_of}
 use Rattle.sw_syntax.specs.Symbols.{Symbol, Sort, Expr, Type'}
 
 abbrev pub P : Type 0 → Type 1
-P A = Part Sighted Face Symbol Sort A
+P A = Part Sight Face Symbol Sort A
 
 infixr 6 ◌·◌
 abbrev pub ◌·◌ : {A B : Type 0} → P A → P B → P (A × B)
@@ -39,20 +40,20 @@ present a = gives is_some (maybe a)
 
 -- a part behind a mark, whose own value counts for nothing
 abbrev pub behind : {A B : Type 0} → P A → P B → P B
-behind a b = gives (λ x. x.1) (a · b)
+behind a b = gives (λ (_, value). value) (a · b)
 
 -- at least one, with commas between; and any number
 abbrev pub some : {A : Type 0} → P A → P (List A)
-some a = gives (λ x. x.0 ∷ x.1) (a · many (behind (tok k.Comma) a))
+some a = gives (λ (first, others). first ∷ others) (a · many (behind (tok k.Comma) a))
 
 abbrev pub any : {A : Type 0} → P A → P (List A)
 any a = gives or_none (maybe (some a))
 
 abbrev pub in_parens : {A : Type 0} → P A → P A
-in_parens a = gives (λ x. x.1.0) (nest (tok k.LeftParen · a · tok k.RightParen))
+in_parens a = gives (λ (_, (value, _)). value) (nest (tok k.LeftParen · a · tok k.RightParen))
 
 abbrev pub in_braces : {A : Type 0} → P A → P A
-in_braces a = gives (λ x. x.1.0) (nest (tok k.LeftBrace · a · tok k.RightBrace))
+in_braces a = gives (λ (_, (value, _)). value) (nest (tok k.LeftBrace · a · tok k.RightBrace))
 
 -- an expression, or a type, that stands in no other
 abbrev pub whole_expr : P ExprTree

@@ -14,11 +14,11 @@ use Rattle.sw_syntax.specs.Sights.{lent_face}
 -- what is seen of the first token
 abbrev pub first_sight : List Sighted → Option Sight
 first_sight [] = None
-first_sight (t ∷ ts) = Some (record { class = t.class; is_first = t.is_first; before_colon = t.before_colon })
+first_sight (t ∷ ts) = Some t.sight
 
 -- an integer is one that a literal holds
 abbrev pub IntegerFits : Sighted → Type 0
-IntegerFits t = is k.Integer t ≡ true → number 0 t.face.text ≤ 9223372036854775807
+IntegerFits t = is k.Integer t.sight ≡ true → number 0 t.face.text ≤ 9223372036854775807
 
 abbrev pub IntegersFit : List Sighted → Type 0
 IntegersFit [] = Unit {0}

@@ -1,18 +1,17 @@
--- The rules that tokens break as a text of a symbol, each at its place, and the first of them.
-use Rattle.std.specs.Prelude.{◌≡◌, ◌<◌, ◌≤◌, ◌⊎◌, ℕ, ◌+◌, Bool, true, false, List, [], ◌∷◌, ◌++◌, drop, length}
+-- The rules that tokens break as a text of a symbol, each at its place.
+use Rattle.std.specs.Prelude.{◌≡◌, ◌⊎◌, ℕ, ◌+◌, Bool, true, false, List, [], ◌∷◌, ◌++◌, drop, length}
 use Rattle.sw_base.specs.declared.ids.Span.{Span}
 use Rattle.sw_rules.specs.declared.Rule.{Rule}
 use Rattle.sw_rules.specs.declared.Rule.TheVariants.{P1, P2, P3, P4, P5, P6}
-use Rattle.sw_rules.specs.declared.FrontError.{FrontError}
-use Rattle.sw_rules.specs.declared.FrontError.TheVariants.{Refused, NoMemory}
-use Rattle.sw_rules.specs.Rule.{rule_order}
+use Rattle.sw_rules.specs.declared.Refusal.{Refusal}
 use Rattle.sw_lex.specs.declared.token.TokenKind.TheVariants as k
 use Rattle.sw_lex.specs.declared.token.Token.{Token}
 use Rattle.sw_grammar.specs.Grammar.{Room}
-use Rattle.sw_grammar.specs.Answers as answers
-use Rattle.sw_syntax.specs.Tokens.{Sighted, Face, face_of, sighted}
+use Rattle.sw_grammar.specs.Ends as ends
+use Rattle.sw_syntax.specs.declared.class.Sight.{Sight}
+use Rattle.sw_syntax.specs.Tokens.{Sighted, Face, sighted}
 use Rattle.sw_syntax.specs.Tests.{is, is_comparison, is_effect}
-use Rattle.sw_syntax.specs.Sights.{broken_at}
+use Rattle.sw_syntax.specs.Broken.{broken_at}
 use Rattle.sw_syntax.specs.Symbols.{Symbol, Sort}
 use Rattle.sw_syntax.specs.Grammar.{rule}
 use Rattle.sw_syntax.specs.Meaning.{Spells, Begun, source_room}
@@ -21,15 +20,15 @@ use Rattle.sw_syntax.specs.Meaning.{Spells, Begun, source_room}
 
 -- with the next token, if there is one, they begin no text in any room
 abbrev pub EndsAt : Bool → Symbol → List Sighted → List Sighted → Type 0
-EndsAt lenient = answers.EndsAt Sighted Face Symbol Sort face_of (rule lenient)
+EndsAt lenient = ends.EndsAt Sight Face Symbol Sort (rule lenient)
 
 -- with the next token they begin no text in the room of a source, but one in a larger room
 abbrev pub LacksRoom : Bool → Symbol → List Sighted → List Sighted → Type 0
-LacksRoom lenient s = answers.LacksRoom Sighted Face Symbol Sort face_of (rule lenient) s source_room
+LacksRoom lenient s = ends.LacksRoom Sight Face Symbol Sort (rule lenient) s source_room
 
 -- they are no text in any room
 abbrev pub IsNoText : Symbol → List Sighted → Type 0
-IsNoText = answers.IsNoText Sighted Face Symbol Sort face_of (rule false)
+IsNoText = ends.IsNoText Sight Face Symbol Sort (rule false)
 
 -- The tokens from a place on are cut before the first with which they begin no text in the room of a source.
 abbrev pub IsLongest : Symbol → List Token → ℕ → List Sighted → Sighted → Type 0
@@ -45,8 +44,8 @@ BeginsBelow s tokens at n =
     × (length run ≡ n) × Begun false s source_room run × ((room : Room) × Begun false s room (run ++ next ∷ []))
 
 -- the last token passes the test
-abbrev pub EndsIn : (Sighted → Bool) → List Sighted → Type 0
-EndsIn f run = (front : List Sighted) × (last : Sighted) × (run ≡ front ++ last ∷ []) × (f last ≡ true)
+abbrev pub EndsIn : (Sight → Bool) → List Sighted → Type 0
+EndsIn f run = (front : List Sighted) × (last : Sighted) × (run ≡ front ++ last ∷ []) × (f last.sight ≡ true)
 
 -- ---- the rules
 
@@ -58,10 +57,10 @@ EndsIn f run = (front : List Sighted) × (last : Sighted) × (run ≡ front ++ l
 -- P6: the token is `try` or `await` right of a binary mark.
 abbrev pub BreaksLater : Symbol → List Token → ℕ → List Sighted → Sighted → Rule → Type 0
 BreaksLater s tokens at run next P2 = IsNoText s run × EndsAt false s run (next ∷ []) × BeginsBelow s tokens at (length run)
-BreaksLater s tokens at run next P3 = LacksRoom false s run (next ∷ []) ⊎ ((is_comparison next ≡ true) × LacksRoom true s run (next ∷ []))
-BreaksLater s tokens at run next P4 = EndsIn (is k.Await) run × (is k.Try next ≡ true)
-BreaksLater s tokens at run next P5 = (is_comparison next ≡ true) × EndsAt false s run (next ∷ []) × Begun true s source_room (run ++ next ∷ [])
-BreaksLater s tokens at run next P6 = (is_effect next ≡ true) × EndsAt false s run (next ∷ []) × Begun true s source_room (run ++ next ∷ [])
+BreaksLater s tokens at run next P3 = LacksRoom false s run (next ∷ []) ⊎ ((is_comparison next.sight ≡ true) × LacksRoom true s run (next ∷ []))
+BreaksLater s tokens at run next P4 = EndsIn (is k.Await) run × (is k.Try next.sight ≡ true)
+BreaksLater s tokens at run next P5 = (is_comparison next.sight ≡ true) × EndsAt false s run (next ∷ []) × Begun true s source_room (run ++ next ∷ [])
+BreaksLater s tokens at run next P6 = (is_effect next.sight ≡ true) × EndsAt false s run (next ∷ []) × Begun true s source_room (run ++ next ∷ [])
 BreaksLater s tokens at run next rule = ⊥
 
 -- P1: it is no text, with the token it begins none, and no later rule tells why.
@@ -81,17 +80,6 @@ Breaks s tokens at rule place =
 
 -- ---- the answer
 
--- by place, then by order
-abbrev pub IsBefore : Rule → ℕ → Rule → ℕ → Type 0
-IsBefore rule place other its_place = (place < its_place) ⊎ ((place ≡ its_place) × (rule_order rule ≤ rule_order other))
-
-abbrev pub IsFirstBroken : Symbol → List Token → ℕ → Rule → ℕ → Type 0
-IsFirstBroken s tokens at rule place =
-    Breaks s tokens at rule place × ((other : Rule) (its_place : ℕ) → Breaks s tokens at other its_place → IsBefore rule place other its_place)
-
-abbrev pub BreaksNone : Symbol → List Token → ℕ → Type 0
-BreaksNone s tokens at = (rule : Rule) (place : ℕ) → Breaks s tokens at rule place → ⊥
-
 -- The tokens from `at` up to `end` are a text of this value, and with the next they begin none.
 abbrev pub IsText : (s : Symbol) → List Token → ℕ → Sort s → ℕ → Type 0
 IsText s tokens at value end =
@@ -102,7 +90,6 @@ IsText s tokens at value end =
 abbrev pub StandsAt : List Token → ℕ → Span → Type 0
 StandsAt tokens place span = (token : Token) × (rest : List Token) × (drop place tokens ≡ token ∷ rest) × (span ≡ token.span)
 
--- a refusal is of the first broken rule; want of memory says nothing
-abbrev pub IsCauseOf : Symbol → List Token → ℕ → FrontError → Type 0
-IsCauseOf s tokens at (Refused refusal) = (place : ℕ) × IsFirstBroken s tokens at refusal.rule place × StandsAt tokens place refusal.span
-IsCauseOf s tokens at NoMemory = Unit {0}
+-- The pass over tokens: from `at` on they break the rule, as a text of the symbol, at the token with this span.
+abbrev pub Refuses : Symbol → List Token → ℕ → Refusal → Type 0
+Refuses s tokens at refusal = (place : ℕ) × Breaks s tokens at refusal.rule place × StandsAt tokens place refusal.span

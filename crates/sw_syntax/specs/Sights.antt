@@ -1,5 +1,5 @@
--- What the code sees of a token, and the tests that it makes of it; and tokens with a line break put before one of them.
-use Rattle.std.specs.Prelude.{Bool, true, false, ◌||◌, ℕ, zero, suc, List, [], ◌∷◌}
+-- What the code sees of a token, and the tests that it makes of it.
+use Rattle.std.specs.Prelude.{Bool, ◌||◌, List, [], ◌∷◌}
 use Rattle.sw_lex.specs.declared.token.TokenKind.TheVariants as k
 use Rattle.sw_lex.specs.declared.token.Token.{Token}
 use Rattle.sw_lex.specs.declared.tokens.TokenRef.{TokenRef}
@@ -9,19 +9,15 @@ use Rattle.sw_syntax.specs.declared.class.Class.TheVariants as class
 use Rattle.sw_syntax.specs.declared.class.Sight.{Sight}
 use Rattle.sw_syntax.specs.declared.class.Test.{Test}
 use Rattle.sw_syntax.specs.declared.class.Test.TheVariants as test
-use Rattle.sw_syntax.specs.Tokens.{Sighted, Face, class_in}
+use Rattle.sw_syntax.specs.Tokens.{Face, class_in}
 use Rattle.sw_syntax.specs.Tests.{is, is_name, is_bool, is_let_or_var, is_effect, is_sign, is_call, is_index, is_force, is_joined_question, is_ternary, is_binary, is_label, is_unlabelled, starts_literal, starts_operand, starts_expr}
 use Rattle.sw_syntax.specs.Tables.{is_form}
 
--- a token with what is seen of it, and an empty face
-abbrev pub whole : Sight → Sighted
-whole s = record { class = s.class; is_first = s.is_first; before_colon = s.before_colon; face = record { kind = k.End; text = []; span = record { line = 0; column = 0 } } }
-
-abbrev pub starts_argument : Sighted → Bool
+abbrev pub starts_argument : Sight → Bool
 starts_argument t = is_label t || starts_expr t
 
 -- which tokens pass a test
-abbrev pub passes : Test → Sighted → Bool
+abbrev pub passes : Test → Sight → Bool
 passes (test.Is kind) = is kind
 passes test.Name = is_name
 passes test.Bool = is_bool
@@ -42,23 +38,6 @@ passes test.Operand = starts_operand
 passes test.Expr = starts_expr
 passes test.Argument = starts_argument
 
--- the token, with a line break before it
-abbrev pub behind_break : Token → Token
-behind_break token = record {
-  kind = token.kind;
-  text = token.text;
-  span = token.span;
-  first_on_line = true;
-  touches = false;
-  after_space = true;
-}
-
--- the tokens, with a line break before the one at this place
-abbrev pub broken_at : ℕ → List Token → List Token
-broken_at at [] = []
-broken_at zero (token ∷ tokens) = behind_break token ∷ tokens
-broken_at (suc at) (token ∷ tokens) = token ∷ broken_at at tokens
-
 -- the face of a token
 abbrev pub token_face : Token → Face
 token_face token = record { kind = token.kind; text = token.text; span = token.span }
@@ -71,8 +50,3 @@ lent_face token = token_face (token_of token)
 abbrev pub first_class : List Token → Class
 first_class [] = class.Is k.End
 first_class (token ∷ tokens) = class_in token.kind token tokens
-
--- the token, with a line break before it or as it is
-abbrev pub broken_if : Bool → Token → Token
-broken_if true token = behind_break token
-broken_if false token = token

@@ -1,40 +1,40 @@
 -- The tables of the grammar: what each symbol begins with and goes on with, which may be empty, and their order.
 use Rattle.std.specs.Prelude.{Bool, true, false, not, ◌||◌, ◌&&◌, ℕ, zero, suc, ◌+◌, ◌-◌}
 use Rattle.sw_lex.specs.declared.token.TokenKind.TheVariants as k
-use Rattle.sw_syntax.specs.Tokens.{Sighted}
+use Rattle.sw_syntax.specs.declared.class.Sight.{Sight}
 use Rattle.sw_syntax.specs.Tests.{is, is_name, is_modifier, is_actor, is_let_or_var, is_any_else, is_first, goes_on_line, is_call, is_index, is_force, is_joined_question, is_ternary, is_binary, is_assignment, is_other_label, is_label, is_payload_label, starts_literal, starts_prim, starts_operand, starts_expr, starts_type}
 use Rattle.sw_syntax.specs.Symbols.{Listed, Decls, Members, Items, Requirements, Place, InBlock, InArm, Ending, Open, Closed, Symbol, File, Some', Rest, Item, Param, Case, Payload, Type', Base, Block, Sbody, Stmts, AfterStmt, AfterReturn, Stmt', If, Arms, Cond, Pat, Cpat, Expr, Tern, Bin, Prefix, Post, Form, Arg, Prim, Elements}
 use Rattle.sw_syntax.specs.Grammar.{begins_below}
 
 -- ---- what a symbol begins with
 
-abbrev pub starts_member : Sighted → Bool
+abbrev pub starts_member : Sight → Bool
 starts_member t = is k.Typealias t || (is_modifier t || (is k.Let t || (is k.Var t || (is k.Func t || is k.Init t))))
 
-abbrev pub starts_item : Listed → Sighted → Bool
+abbrev pub starts_item : Listed → Sight → Bool
 starts_item Decls t = is k.Import t || (is k.Typealias t || (is_modifier t || (is k.Struct t || (is k.Enum t || (is k.Protocol t || (is_actor t || is k.Func t))))))
 starts_item Members t = starts_member t
 starts_item Items t = is k.Case t || starts_member t
 starts_item Requirements t = is k.Var t || (is_modifier t || is k.Func t)
 
-abbrev pub starts_stmt_of : Ending → Sighted → Bool
+abbrev pub starts_stmt_of : Ending → Sight → Bool
 starts_stmt_of Open t = is_let_or_var t || (starts_expr t || (is k.Underscore t || is k.Throw t))
 starts_stmt_of Closed t = is k.If t || (is k.Guard t || (is k.While t || (is k.For t || (is k.Switch t || (is k.Do t || (is k.Break t || is k.Continue t))))))
 
-abbrev pub starts_stmt : Sighted → Bool
+abbrev pub starts_stmt : Sight → Bool
 starts_stmt t = starts_stmt_of Open t || (starts_stmt_of Closed t || is k.Return t)
 
-abbrev pub starts_arm : Sighted → Bool
+abbrev pub starts_arm : Sight → Bool
 starts_arm t = is k.Case t || is k.Default t
 
-abbrev pub starts_next : Place → Ending → Sighted → Bool
+abbrev pub starts_next : Place → Ending → Sight → Bool
 starts_next InBlock ending t = is k.Semicolon t || (begins_below ending t && starts_stmt t)
 starts_next InArm ending t = is k.Semicolon t || ((begins_below ending t && starts_stmt t) || (is_first t && starts_arm t))
 
-abbrev pub is_form : Sighted → Bool
+abbrev pub is_form : Sight → Bool
 is_form t = is k.Dot t || (is_call t || (is_index t || is_force t))
 
-abbrev pub heads : Symbol → Sighted → Bool
+abbrev pub heads : Symbol → Sight → Bool
 heads File t = starts_item Decls t || is k.End t
 heads (Some' l) t = starts_item l t
 heads (Rest l) t = is k.Semicolon t || (is_first t && starts_item l t)
@@ -69,7 +69,7 @@ heads Elements t = starts_expr t
 -- ---- what a symbol goes on with
 
 -- a binary mark of this strength or more, or what follows a prim
-abbrev pub goes_on : ℕ → Sighted → Bool
+abbrev pub goes_on : ℕ → Sight → Bool
 goes_on zero t = is_binary 0 t || (is_binary 1 t || (is_binary 2 t || (is_binary 3 t || (is_binary 4 t || (is_binary 5 t || is_form t)))))
 goes_on (suc zero) t = is_binary 1 t || (is_binary 2 t || (is_binary 3 t || (is_binary 4 t || (is_binary 5 t || is_form t))))
 goes_on (suc (suc zero)) t = is_binary 2 t || (is_binary 3 t || (is_binary 4 t || (is_binary 5 t || is_form t)))
@@ -78,26 +78,26 @@ goes_on (suc (suc (suc (suc zero)))) t = is_binary 4 t || (is_binary 5 t || is_f
 goes_on (suc (suc (suc (suc (suc zero))))) t = is_binary 5 t || is_form t
 goes_on (suc (suc (suc (suc (suc (suc n)))))) t = is_form t
 
-abbrev pub goes_on_expr : Sighted → Bool
+abbrev pub goes_on_expr : Sight → Bool
 goes_on_expr t = is_ternary t || goes_on 0 t
 
-abbrev pub goes_on_type : Sighted → Bool
+abbrev pub goes_on_type : Sight → Bool
 goes_on_type t = is_joined_question t || is k.Dot t
 
-abbrev pub goes_on_member : Sighted → Bool
+abbrev pub goes_on_member : Sight → Bool
 goes_on_member t = goes_on_type t || (goes_on_expr t || (is k.Colon t || (is k.Assign t || is k.LeftBrace t)))
 
-abbrev pub goes_on_item : Listed → Sighted → Bool
+abbrev pub goes_on_item : Listed → Sight → Bool
 goes_on_item Decls t = goes_on_type t
 goes_on_item Members t = goes_on_member t
 goes_on_item Items t = goes_on_member t || (is k.LeftParen t || is k.Comma t)
 goes_on_item Requirements t = is k.Async t || (is k.Throws t || (is k.Arrow t || goes_on_type t))
 
 -- what may stand in a list before its end
-abbrev pub is_inner : Sighted → Bool
+abbrev pub is_inner : Sight → Bool
 is_inner t = not (is k.RightBrace t || is k.End t)
 
-abbrev pub tails : Symbol → Sighted → Bool
+abbrev pub tails : Symbol → Sight → Bool
 tails File t = false
 tails (Some' l) t = is_inner t
 tails (Rest l) t = is_inner t

@@ -2,9 +2,10 @@
 use Rattle.std.specs.Prelude.{Bool, true, false, not, ◌||◌, ◌&&◌, ℕ, zero, suc}
 use Rattle.sw_lex.specs.declared.token.TokenKind.{TokenKind}
 use Rattle.sw_lex.specs.declared.token.TokenKind.TheVariants as k
+use Rattle.sw_syntax.specs.declared.class.Sight.{Sight}
 use Rattle.sw_syntax.specs.declared.class.Class.{Class}
 use Rattle.sw_syntax.specs.declared.class.Class.TheVariants.{Is, Actor, Distributed, Nonisolated, Mutating, Final, Get, GetBlock, ElseIf, TouchingBang, TouchingQuestion, SpacedQuestion, LooseMinus}
-use Rattle.sw_syntax.specs.Tokens.{same_kind, Sighted}
+use Rattle.sw_syntax.specs.Tokens.{same_kind}
 
 -- ---- tests of a class
 
@@ -140,97 +141,97 @@ is_spaced_question_class class = false
 
 -- ---- tests of a token
 
-abbrev pub is : TokenKind → Sighted → Bool
+abbrev pub is : TokenKind → Sight → Bool
 is kind t = is_of kind t.class
 
-abbrev pub is_name : Sighted → Bool
+abbrev pub is_name : Sight → Bool
 is_name t = is_name_class t.class
 
-abbrev pub is_reserved : Sighted → Bool
+abbrev pub is_reserved : Sight → Bool
 is_reserved t = is_reserved_class t.class
 
-abbrev pub is_modifier : Sighted → Bool
+abbrev pub is_modifier : Sight → Bool
 is_modifier t = is_modifier_class t.class
 
-abbrev pub is_actor : Sighted → Bool
+abbrev pub is_actor : Sight → Bool
 is_actor t = is_actor_class t.class
 
-abbrev pub is_get : Sighted → Bool
+abbrev pub is_get : Sight → Bool
 is_get t = is_get_class t.class
 
 -- `get` before its block
-abbrev pub is_getter : Sighted → Bool
+abbrev pub is_getter : Sight → Bool
 is_getter t = is_get_block_class t.class
 
-abbrev pub is_no_getter : Sighted → Bool
+abbrev pub is_no_getter : Sight → Bool
 is_no_getter t = not (is_getter t)
 
-abbrev pub is_let_or_var : Sighted → Bool
+abbrev pub is_let_or_var : Sight → Bool
 is_let_or_var t = is k.Let t || is k.Var t
 
-abbrev pub is_bool : Sighted → Bool
+abbrev pub is_bool : Sight → Bool
 is_bool t = is k.True t || is k.False t
 
 -- an `else` before anything but `if`, and one before `if`
-abbrev pub is_else : Sighted → Bool
+abbrev pub is_else : Sight → Bool
 is_else t = is k.Else t
 
-abbrev pub is_else_if : Sighted → Bool
+abbrev pub is_else_if : Sight → Bool
 is_else_if t = is_else_if_class t.class
 
-abbrev pub is_any_else : Sighted → Bool
+abbrev pub is_any_else : Sight → Bool
 is_any_else t = is_else_class t.class
 
 -- ---- line rules
 
-abbrev pub is_first : Sighted → Bool
+abbrev pub is_first : Sight → Bool
 is_first t = t.is_first
 
 -- what stands on the line of the token before it
-abbrev pub goes_on_line : Sighted → Bool
+abbrev pub goes_on_line : Sight → Bool
 goes_on_line t = not t.is_first
 
 -- a call's `(` and an index's `[` stand on the line of what precedes
-abbrev pub is_call : Sighted → Bool
+abbrev pub is_call : Sight → Bool
 is_call t = is k.LeftParen t && not t.is_first
 
-abbrev pub is_index : Sighted → Bool
+abbrev pub is_index : Sight → Bool
 is_index t = is k.LeftBracket t && not t.is_first
 
 -- a postfix `!` touches what precedes, and never goes on at the start of a line
-abbrev pub is_force : Sighted → Bool
+abbrev pub is_force : Sight → Bool
 is_force t = is_touching_bang_class t.class && not t.is_first
 
 -- a type's `?`, and the `?` of `try?`, touch what precedes
-abbrev pub is_joined_question : Sighted → Bool
+abbrev pub is_joined_question : Sight → Bool
 is_joined_question t = is_touching_question_class t.class
 
 -- a ternary's `?` follows white space
-abbrev pub is_ternary : Sighted → Bool
+abbrev pub is_ternary : Sight → Bool
 is_ternary t = is_spaced_question_class t.class
 
 -- a prefix `-` or `!`
-abbrev pub is_sign : Sighted → Bool
+abbrev pub is_sign : Sight → Bool
 is_sign t = is_minus_class t.class || is_bang_class t.class
 
 -- `try` or `await`
-abbrev pub is_effect : Sighted → Bool
+abbrev pub is_effect : Sight → Bool
 is_effect t = is k.Try t || is k.Await t
 
 -- at the start of a line a binary `-` has white space or a comment behind it
-abbrev pub is_binary_minus : Sighted → Bool
+abbrev pub is_binary_minus : Sight → Bool
 is_binary_minus t = is_minus_class t.class && (not t.is_first || is_loose_minus_class t.class)
 
 -- what goes on with an expression at the start of a line, and would begin one elsewhere
-abbrev pub goes_on_below : Sighted → Bool
+abbrev pub goes_on_below : Sight → Bool
 goes_on_below t = is k.Dot t || is_loose_minus_class t.class
 
 -- ---- binary marks, from weak to strong
 
-abbrev pub is_comparison : Sighted → Bool
+abbrev pub is_comparison : Sight → Bool
 is_comparison t = is k.EqualEqual t || (is k.NotEqual t || (is k.Less t || (is k.LessEqual t || (is k.Greater t || is k.GreaterEqual t))))
 
-abbrev pub is_binary : ℕ → Sighted → Bool
+abbrev pub is_binary : ℕ → Sight → Bool
 is_binary zero t = is k.Or t
 is_binary (suc zero) t = is k.And t
 is_binary (suc (suc zero)) t = is_comparison t
@@ -239,42 +240,42 @@ is_binary (suc (suc (suc (suc zero)))) t = is k.Plus t || is_binary_minus t
 is_binary n t = is k.Star t || (is k.Slash t || is k.Percent t)
 
 -- the marks of assignments, and of ranges
-abbrev pub is_assignment : Sighted → Bool
+abbrev pub is_assignment : Sight → Bool
 is_assignment t = is k.Assign t || (is k.PlusAssign t || (is k.MinusAssign t || (is k.StarAssign t || (is k.SlashAssign t || is k.PercentAssign t))))
 
-abbrev pub is_range : Sighted → Bool
+abbrev pub is_range : Sight → Bool
 is_range t = is k.HalfOpenRange t || is k.Ellipsis t
 
 -- ---- what stands first
 
-abbrev pub starts_literal : Sighted → Bool
+abbrev pub starts_literal : Sight → Bool
 starts_literal t = is k.Integer t || (is_bool t || (is k.StringWhole t || is k.StringStart t))
 
-abbrev pub starts_prim : Sighted → Bool
+abbrev pub starts_prim : Sight → Bool
 starts_prim t = starts_literal t || (is k.Nil t || (is_name t || (is k.Self_ t || (is k.Dot t || (is k.LeftParen t || is k.LeftBracket t)))))
 
-abbrev pub starts_operand : Sighted → Bool
+abbrev pub starts_operand : Sight → Bool
 starts_operand t = is_sign t || starts_prim t
 
-abbrev pub starts_expr : Sighted → Bool
+abbrev pub starts_expr : Sight → Bool
 starts_expr t = is k.Try t || (is k.Await t || starts_operand t)
 
-abbrev pub starts_type : Sighted → Bool
+abbrev pub starts_type : Sight → Bool
 starts_type t = is_name t || (is k.LeftBracket t || (is k.Any t || is k.LeftParen t))
 
 -- A word is a label before `:`, and also where it can be nothing else.
-abbrev pub is_label : Sighted → Bool
+abbrev pub is_label : Sight → Bool
 is_label t = (is_name t && t.before_colon) || (is_reserved t && (t.before_colon || not (starts_expr t)))
 
-abbrev pub is_payload_label : Sighted → Bool
+abbrev pub is_payload_label : Sight → Bool
 is_payload_label t = (is_name t && t.before_colon) || (is_reserved t && (t.before_colon || not (starts_type t)))
 
-abbrev pub is_unlabelled : Sighted → Bool
+abbrev pub is_unlabelled : Sight → Bool
 is_unlabelled t = not (is_label t)
 
-abbrev pub is_bare_type : Sighted → Bool
+abbrev pub is_bare_type : Sight → Bool
 is_bare_type t = not (is_payload_label t)
 
 -- the first of two names of a parameter, where it is none itself
-abbrev pub is_other_label : Sighted → Bool
+abbrev pub is_other_label : Sight → Bool
 is_other_label t = is k.Underscore t || is_reserved t

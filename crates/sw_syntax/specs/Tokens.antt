@@ -8,6 +8,8 @@ use Rattle.sw_lex.specs.declared.token.TokenKind.TheVariants as k
 use Rattle.sw_lex.specs.declared.token.Token.{Token}
 use Rattle.sw_lex.specs.Bytes.{Text}
 use Rattle.sw_lex.specs.Tables.{is_same_text}
+use Rattle.sw_grammar.specs.Grammar as grammar
+use Rattle.sw_syntax.specs.declared.class.Sight.{Sight}
 use Rattle.sw_syntax.specs.declared.class.Class.{Class}
 use Rattle.sw_syntax.specs.declared.class.Class.TheVariants.{Is, Actor, Distributed, Nonisolated, Mutating, Final, Get, GetBlock, ElseIf, TouchingBang, TouchingQuestion, SpacedQuestion, LooseMinus}
 
@@ -20,16 +22,9 @@ pub record Face : Type 0 where
   pub text : Text
   pub span : Span
 
-pub record Sighted : Type 0 where
-  pub class : Class
-  -- no earlier token stands on its line
-  pub is_first : Bool
-  -- the next token is `:`
-  pub before_colon : Bool
-  pub face : Face
-
-abbrev pub face_of : Sighted → Face
-face_of t = t.face
+-- a token as the grammar sees it: its sight, which is all that tests look at, and its face
+abbrev pub Sighted : Type 0
+Sighted = grammar.Token Sight Face
 
 -- ---- what stands behind a token
 
@@ -65,9 +60,7 @@ class_in kind token behind = Is kind
 
 abbrev pub seen : Token → List Token → Sighted
 seen token behind = record {
-  class = class_in token.kind token behind;
-  is_first = token.first_on_line;
-  before_colon = is_next k.Colon behind;
+  sight = record { class = class_in token.kind token behind; is_first = token.first_on_line; before_colon = is_next k.Colon behind };
   face = record { kind = token.kind; text = token.text; span = token.span };
 }
 

@@ -1,7 +1,7 @@
 //! What a token is to the grammar.
 
 ghost use Rattle.std.specs.Prelude.{◌≡◌};
-ghost use Rattle.sw_syntax.specs.Sights.{whole, passes, starts_argument};
+ghost use Rattle.sw_syntax.specs.Sights.{passes, starts_argument};
 ghost use Rattle.sw_syntax.specs.Tests as spec;
 ghost use Rattle.sw_syntax.specs.Tables as table;
 ghost use Rattle.sw_syntax.specs.Tokens as token;
@@ -249,61 +249,61 @@ fn is_reserved(kind: TokenKind) -> bool
 
 impl Sight {
     pub(crate) fn is(self, kind: TokenKind) -> bool
-        ensures { result ≡ spec.is kind (whole self) }
+        ensures { result ≡ spec.is kind self }
     {
         self.class.is(kind)
     }
 
     fn is_bool(self) -> bool
-        ensures { result ≡ spec.is_bool (whole self) }
+        ensures { result ≡ spec.is_bool self }
     {
         self.is(TokenKind::True) || self.is(TokenKind::False)
     }
 
     fn is_effect(self) -> bool
-        ensures { result ≡ spec.is_effect (whole self) }
+        ensures { result ≡ spec.is_effect self }
     {
         self.is(TokenKind::Try) || self.is(TokenKind::Await)
     }
 
     fn is_sign(self) -> bool
-        ensures { result ≡ spec.is_sign (whole self) }
+        ensures { result ≡ spec.is_sign self }
     {
         self.class.is_minus() || self.class.is_bang()
     }
 
     fn is_call(self) -> bool
-        ensures { result ≡ spec.is_call (whole self) }
+        ensures { result ≡ spec.is_call self }
     {
         self.is(TokenKind::LeftParen) && !self.is_first
     }
 
     fn is_index(self) -> bool
-        ensures { result ≡ spec.is_index (whole self) }
+        ensures { result ≡ spec.is_index self }
     {
         self.is(TokenKind::LeftBracket) && !self.is_first
     }
 
     fn is_force(self) -> bool
-        ensures { result ≡ spec.is_force (whole self) }
+        ensures { result ≡ spec.is_force self }
     {
         self.class.is_touching_bang() && !self.is_first
     }
 
     fn is_form(self) -> bool
-        ensures { result ≡ table.is_form (whole self) }
+        ensures { result ≡ table.is_form self }
     {
         self.is(TokenKind::Dot) || self.is_call() || self.is_index() || self.is_force()
     }
 
     fn is_binary_minus(self) -> bool
-        ensures { result ≡ spec.is_binary_minus (whole self) }
+        ensures { result ≡ spec.is_binary_minus self }
     {
         self.class.is_minus() && (!self.is_first || self.class.is_loose_minus())
     }
 
     fn is_comparison(self) -> bool
-        ensures { result ≡ spec.is_comparison (whole self) }
+        ensures { result ≡ spec.is_comparison self }
     {
         self.is(TokenKind::EqualEqual)
             || self.is(TokenKind::NotEqual)
@@ -314,13 +314,13 @@ impl Sight {
     }
 
     fn is_factor_mark(self) -> bool
-        ensures { result ≡ spec.is_binary 5 (whole self) }
+        ensures { result ≡ spec.is_binary 5 self }
     {
         self.is(TokenKind::Star) || self.is(TokenKind::Slash) || self.is(TokenKind::Percent)
     }
 
     fn is_binary(self, strength: u8) -> bool
-        ensures { result ≡ spec.is_binary strength (whole self) }
+        ensures { result ≡ spec.is_binary strength self }
     {
         match strength {
             0 => self.is(TokenKind::Or),
@@ -333,7 +333,7 @@ impl Sight {
     }
 
     pub(crate) fn starts_literal(self) -> bool
-        ensures { result ≡ spec.starts_literal (whole self) }
+        ensures { result ≡ spec.starts_literal self }
     {
         self.is(TokenKind::Integer)
             || self.is_bool()
@@ -342,7 +342,7 @@ impl Sight {
     }
 
     fn starts_prim(self) -> bool
-        ensures { result ≡ spec.starts_prim (whole self) }
+        ensures { result ≡ spec.starts_prim self }
     {
         self.starts_literal()
             || self.is(TokenKind::Nil)
@@ -354,31 +354,31 @@ impl Sight {
     }
 
     fn starts_operand(self) -> bool
-        ensures { result ≡ spec.starts_operand (whole self) }
+        ensures { result ≡ spec.starts_operand self }
     {
         self.is_sign() || self.starts_prim()
     }
 
     pub(crate) fn starts_expr(self) -> bool
-        ensures { result ≡ spec.starts_expr (whole self) }
+        ensures { result ≡ spec.starts_expr self }
     {
         self.is(TokenKind::Try) || self.is(TokenKind::Await) || self.starts_operand()
     }
 
     fn starts_argument(self) -> bool
-        ensures { result ≡ starts_argument (whole self) }
+        ensures { result ≡ starts_argument self }
     {
         self.is_label() || self.starts_expr()
     }
 
     pub(crate) fn is_let_or_var(self) -> bool
-        ensures { result ≡ spec.is_let_or_var (whole self) }
+        ensures { result ≡ spec.is_let_or_var self }
     {
         self.is(TokenKind::Let) || self.is(TokenKind::Var)
     }
 
     fn is_label(self) -> bool
-        ensures { result ≡ spec.is_label (whole self) }
+        ensures { result ≡ spec.is_label self }
     {
         self.class.is_name() && self.before_colon
             || self.class.is_reserved() && (self.before_colon || !self.starts_expr())
@@ -386,7 +386,7 @@ impl Sight {
 
     /// Tells whether the token that was seen passes the test.
     pub fn passes(self, test: Test) -> bool
-        ensures { result ≡ passes test (whole self) }
+        ensures { result ≡ passes test self }
     {
         match test {
             Test::Is(kind) => self.is(kind),

@@ -6,11 +6,9 @@ ghost use Rattle.sw_syntax.specs.DeclTests.{stands, starts_bind};
 ghost use Rattle.sw_syntax.specs.Bodies.{is_returned};
 ghost use Rattle.sw_syntax.specs.Grammar.{begins_below};
 ghost use Rattle.sw_syntax.specs.Reading.{Gives, Moves, Inside, met};
-ghost use Rattle.sw_syntax.specs.Sights.{whole};
 ghost use Rattle.sw_syntax.specs.Symbols as symbol;
 ghost use Rattle.sw_syntax.specs.Tables as table;
 ghost use Rattle.sw_syntax.specs.Tests as spec;
-ghost use Rattle.sw_syntax.specs.Tokens.{face_of};
 
 use crate::class::{Class, Sight};
 use crate::source::{Source, Stop};
@@ -139,13 +137,13 @@ fn is_any_else(class: Class) -> bool
 }
 
 fn goes_on_below(sight: Sight) -> bool
-    ensures { result ≡ spec.goes_on_below (whole sight) }
+    ensures { result ≡ spec.goes_on_below sight }
 {
     sight.is(TokenKind::Dot) || sight.class.is_loose_minus()
 }
 
 fn is_assignment(sight: Sight) -> bool
-    ensures { result ≡ spec.is_assignment (whole sight) }
+    ensures { result ≡ spec.is_assignment sight }
 {
     sight.is(TokenKind::Assign)
         || sight.is(TokenKind::PlusAssign)
@@ -156,13 +154,13 @@ fn is_assignment(sight: Sight) -> bool
 }
 
 fn is_range(sight: Sight) -> bool
-    ensures { result ≡ spec.is_range (whole sight) }
+    ensures { result ≡ spec.is_range sight }
 {
     sight.is(TokenKind::HalfOpenRange) || sight.is(TokenKind::Ellipsis)
 }
 
 fn starts_type(sight: Sight) -> bool
-    ensures { result ≡ spec.starts_type (whole sight) }
+    ensures { result ≡ spec.starts_type sight }
 {
     sight.class.is_name()
         || sight.is(TokenKind::LeftBracket)
@@ -171,20 +169,20 @@ fn starts_type(sight: Sight) -> bool
 }
 
 fn is_payload_label(sight: Sight) -> bool
-    ensures { result ≡ spec.is_payload_label (whole sight) }
+    ensures { result ≡ spec.is_payload_label sight }
 {
     sight.class.is_name() && sight.before_colon
         || sight.class.is_reserved() && (sight.before_colon || !starts_type(sight))
 }
 
 fn is_other_label(sight: Sight) -> bool
-    ensures { result ≡ spec.is_other_label (whole sight) }
+    ensures { result ≡ spec.is_other_label sight }
 {
     sight.is(TokenKind::Underscore) || sight.class.is_reserved()
 }
 
 fn starts_decl(sight: Sight) -> bool
-    ensures { result ≡ table.starts_item symbol.Decls (whole sight) }
+    ensures { result ≡ table.starts_item symbol.Decls sight }
 {
     sight.is(TokenKind::Import)
         || sight.is(TokenKind::Typealias)
@@ -197,7 +195,7 @@ fn starts_decl(sight: Sight) -> bool
 }
 
 fn starts_member(sight: Sight) -> bool
-    ensures { result ≡ table.starts_item symbol.Members (whole sight) }
+    ensures { result ≡ table.starts_item symbol.Members sight }
 {
     sight.is(TokenKind::Typealias)
         || is_modifier(sight.class)
@@ -208,19 +206,19 @@ fn starts_member(sight: Sight) -> bool
 }
 
 fn starts_enum_item(sight: Sight) -> bool
-    ensures { result ≡ table.starts_item symbol.Items (whole sight) }
+    ensures { result ≡ table.starts_item symbol.Items sight }
 {
     sight.is(TokenKind::Case) || starts_member(sight)
 }
 
 fn starts_requirement(sight: Sight) -> bool
-    ensures { result ≡ table.starts_item symbol.Requirements (whole sight) }
+    ensures { result ≡ table.starts_item symbol.Requirements sight }
 {
     sight.is(TokenKind::Var) || is_modifier(sight.class) || sight.is(TokenKind::Func)
 }
 
 fn starts_open(sight: Sight) -> bool
-    ensures { result ≡ table.starts_stmt_of symbol.Open (whole sight) }
+    ensures { result ≡ table.starts_stmt_of symbol.Open sight }
 {
     sight.is_let_or_var()
         || sight.starts_expr()
@@ -229,7 +227,7 @@ fn starts_open(sight: Sight) -> bool
 }
 
 fn starts_closed(sight: Sight) -> bool
-    ensures { result ≡ table.starts_stmt_of symbol.Closed (whole sight) }
+    ensures { result ≡ table.starts_stmt_of symbol.Closed sight }
 {
     sight.is(TokenKind::If)
         || sight.is(TokenKind::Guard)
@@ -242,43 +240,43 @@ fn starts_closed(sight: Sight) -> bool
 }
 
 fn starts_statement(sight: Sight) -> bool
-    ensures { result ≡ table.starts_stmt (whole sight) }
+    ensures { result ≡ table.starts_stmt sight }
 {
     starts_open(sight) || starts_closed(sight) || sight.is(TokenKind::Return)
 }
 
 fn starts_arm(sight: Sight) -> bool
-    ensures { result ≡ table.starts_arm (whole sight) }
+    ensures { result ≡ table.starts_arm sight }
 {
     sight.is(TokenKind::Case) || sight.is(TokenKind::Default)
 }
 
 fn is_returned(sight: Sight) -> bool
-    ensures { result ≡ is_returned (whole sight) }
+    ensures { result ≡ is_returned sight }
 {
     !sight.is_first && sight.starts_expr()
 }
 
 fn is_below_open(sight: Sight) -> bool
-    ensures { result ≡ begins_below symbol.Open (whole sight) }
+    ensures { result ≡ begins_below symbol.Open sight }
 {
     sight.is_first && !goes_on_below(sight)
 }
 
 fn starts_parameter(sight: Sight) -> bool
-    ensures { result ≡ table.heads symbol.Param (whole sight) }
+    ensures { result ≡ table.heads symbol.Param sight }
 {
     sight.class.is_name() || is_other_label(sight)
 }
 
 fn starts_payload(sight: Sight) -> bool
-    ensures { result ≡ table.heads symbol.Payload (whole sight) }
+    ensures { result ≡ table.heads symbol.Payload sight }
 {
     is_payload_label(sight) || starts_type(sight)
 }
 
 fn starts_pattern(sight: Sight) -> bool
-    ensures { result ≡ table.heads symbol.Pat (whole sight) }
+    ensures { result ≡ table.heads symbol.Pat sight }
 {
     sight.is(TokenKind::Underscore)
         || sight.starts_literal()
@@ -288,19 +286,19 @@ fn starts_pattern(sight: Sight) -> bool
 }
 
 fn starts_catch_pattern(sight: Sight) -> bool
-    ensures { result ≡ table.heads symbol.Cpat (whole sight) }
+    ensures { result ≡ table.heads symbol.Cpat sight }
 {
     sight.is(TokenKind::Let) || sight.class.is_name()
 }
 
 fn starts_bind(sight: Sight) -> bool
-    ensures { result ≡ starts_bind (whole sight) }
+    ensures { result ≡ starts_bind sight }
 {
     sight.is(TokenKind::Let) || sight.is(TokenKind::Underscore)
 }
 
 fn passes(sight: Sight, test: Opening) -> bool
-    ensures { result ≡ stands test (whole sight) }
+    ensures { result ≡ stands test sight }
 {
     match test {
         Opening::Modifier => is_modifier(sight.class),
@@ -352,7 +350,7 @@ pub fn expect_opening<'a>(
     at: usize,
     test: Opening,
 ) -> Result<(TokenRef<'a>, usize), Stop>
-    ensures gives { (left : ℕ) → Gives source.now (met left result) (one face_of (stands test) left (drop at source.now)) }
+    ensures gives { (left : ℕ) → Gives source.now (met left result) (one (stands test) left (drop at source.now)) }
     ensures moves { Moves at (met 0 result) }
     ensures inside { Inside (length source.now) (met 0 result) }
 {

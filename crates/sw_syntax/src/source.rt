@@ -2,15 +2,16 @@
 
 ghost use Rattle.std.specs.Prelude.{◌≡◌, ◌<◌, ◌≤◌, ◌+◌, ℕ, Bool, List, [], drop, length, true, OnSome};
 ghost use Rattle.sw_grammar.specs.Reading.{at_first, one};
-ghost use Rattle.sw_syntax.specs.Meaning.{Takes};
+ghost use Rattle.sw_syntax.specs.Answering.{Takes};
 ghost use Rattle.sw_syntax.specs.Reading.{first_sight, IntegersFit, Gives, Moves, Inside, met};
-ghost use Rattle.sw_syntax.specs.Sights.{broken_at, broken_if, first_class, lent_face, passes};
+ghost use Rattle.sw_syntax.specs.Sights.{first_class, lent_face, passes};
+ghost use Rattle.sw_syntax.specs.Broken.{broken_at, broken_if};
 ghost use Rattle.sw_lex.specs.declared.token.TokenKind.TheVariants as k;
 ghost use Rattle.sw_lex.specs.Rules.{number};
 ghost use Rattle.sw_lex.specs.Tables.{is_same_text};
 ghost use Rattle.sw_lex.specs.Tokens.{token_of};
 ghost use Rattle.sw_syntax.specs.Tests.{is};
-ghost use Rattle.sw_syntax.specs.Tokens.{Sighted, sighted, class_in, is_next, touches_next, class_of_name, face_of};
+ghost use Rattle.sw_syntax.specs.Tokens.{Sighted, sighted, class_in, is_next, touches_next, class_of_name};
 
 use crate::class::{Class, Sight, Test, same_kind};
 use std::alloc::AllocError;
@@ -187,7 +188,7 @@ pub struct Source<'a> {
 impl<'a> Model for Source<'a> {
     ghost use Rattle.std.specs.Prelude.{List};
     ghost use Rattle.sw_syntax.specs.Tokens.{Sighted, sighted};
-    ghost use Rattle.sw_syntax.specs.Sights.{broken_at};
+    ghost use Rattle.sw_syntax.specs.Broken.{broken_at};
     ghost use Rattle.sw_syntax.specs.Reading.{IntegersFit};
 
     ghost Value = { List Sighted };
@@ -252,7 +253,7 @@ impl<'a> Source<'a> {
     /// The token at this place, which passed a test, and the place after it.
     pub fn take(&self, at: usize) -> (TokenRef<'a>, usize)
         requires { at < length self.now }
-        ensures taken { (f : Sighted → Bool) → at_first f (drop at self.now) ≡ true → Takes f (drop at self.now) (lent_face result.0) (drop result.1 self.now) }
+        ensures taken { (f : Sight → Bool) → at_first f (drop at self.now) ≡ true → Takes f (drop at self.now) (lent_face result.0) (drop result.1 self.now) }
         ensures fits { at_first (is k.Integer) (drop at self.now) ≡ true → number 0 result.0.text.now ≤ 9223372036854775807 }
         ensures next { result.1 ≡ at + 1 }
     {
@@ -261,7 +262,7 @@ impl<'a> Source<'a> {
 
     /// The token at this place, if it passes a test, and the place after it.
     pub fn expect(&self, at: usize, test: Test) -> Result<(TokenRef<'a>, usize), Stop>
-        ensures gives { (left : ℕ) → Gives self.now (met left result) (one face_of (passes test) left (drop at self.now)) }
+        ensures gives { (left : ℕ) → Gives self.now (met left result) (one (passes test) left (drop at self.now)) }
         ensures moves { Moves at (met 0 result) }
         ensures inside { Inside (length self.now) (met 0 result) }
     {

@@ -1,8 +1,10 @@
 -- What a source is read as, from what the lexer and the parser answer.
-use Rattle.std.proofs.Common.{inl, inr, false, List, Result, Ok, Err, IfOk, IfErr, subst}
+use Rattle.std.proofs.Common.{false, List, Result, Ok, Err, IfOk, IfErr, subst}
 use Rattle.sw_rules.specs.declared.Refusal.{Refusal}
 use Rattle.sw_rules.specs.declared.FrontError.{FrontError}
 use Rattle.sw_rules.specs.declared.FrontError.TheVariants.{Refused, NoMemory}
+use Rattle.sw_rules.specs.Pass.{IsCause, RefusesNone}
+use Rattle.sw_rules.proofs.Passes.{first_of_earlier, first_of_later, none_of_both, one_first, same_first}
 use Rattle.sw_lex.specs.declared.token.Token.{Token}
 use Rattle.sw_lex.specs.Bytes.{Text}
 use Rattle.sw_lex.specs.Tokens.{CutsInto}
@@ -14,37 +16,56 @@ use Rattle.sw_syntax.specs.Symbols.{File}
 use Rattle.sw_syntax.specs.Meaning.{Spells, source_room}
 use Rattle.sw_syntax.specs.Refusals as grammar
 use Rattle.sw_parse_decl.specs.Parsed.{IsOnlyTree, HasNoTree}
-use Rattle.swda.specs.ReadAs.{First, IsRead, IsRefusedBy}
+use Rattle.swda.specs.ReadAs.{First, IsRead, IsRefused, IsRefusedBy, HasTree, Refuses, RefusesTokens}
 
-module _ (source : Text) (found : List Token) (cut : CutsInto source found) (only : IsOnlyCut source found) (unbroken : tokens.BreaksNone source) where
+refused_so : (source : Text) (refusal : Refusal) → First source refusal → ((tree : Tree) → HasTree source tree → ⊥) → IsRefused source refusal
+refused_so source refusal first none = record {
+  first = first;
+  only = λ other its. one_first (Refuses source) other refusal its first;
+  none = none;
+}
+
+-- the lexer refused the source
+pub by_lexer : (source : Text) (error : FrontError) → IsCause (tokens.Refuses source) error → IsRefusedBy source error
+by_lexer source (Refused refusal) first =
+    refused_so source refusal (first_of_earlier (tokens.Refuses source) (RefusesTokens source) refusal first)
+    (λ tree (others, (cut, unbroken), spells, rest). unbroken refusal first.refused)
+by_lexer source NoMemory first = tt
+
+module _ (source : Text) (found : List Token) (cut : CutsInto source found) (only : IsOnlyCut source found) (unbroken : RefusesNone (tokens.Refuses source)) where
+  -- what its tokens break, the source breaks
+  of_tokens : (refusal : Refusal) → grammar.Refuses File found 0 refusal → RefusesTokens source refusal
+  of_tokens refusal h = (found, cut, h)
+
+  to_tokens : (refusal : Refusal) → RefusesTokens source refusal → grammar.Refuses File found 0 refusal
+  to_tokens refusal (others, cut', h) = subst (λ ts. grammar.Refuses File ts 0 refusal) (only others cut') h
+
   -- the parser refused its tokens
-  pub by_parser : (error : FrontError) → grammar.IsCauseOf File found 0 error → HasNoTree found error → IsRefusedBy source error
-  by_parser (Refused refusal) cause none = record {
-    first = inr (found, (cut, unbroken), cause);
-    none = λ tree (others, (cut', unbroken'), spells, rest). none tree (subst (λ ts. Spells false File source_room (sighted ts) tree) (only others cut') spells);
-  }
-  by_parser NoMemory cause none = tt
+  pub by_parser : (error : FrontError) → IsCause (grammar.Refuses File found 0) error → HasNoTree found error → IsRefusedBy source error
+  by_parser (Refused refusal) first none =
+      refused_so source refusal
+      (first_of_later (tokens.Refuses source) (RefusesTokens source) refusal unbroken (same_first (grammar.Refuses File found 0) (RefusesTokens source) refusal of_tokens to_tokens first))
+      (λ tree (others, (cut', unbroken'), spells, rest). none tree (subst (λ ts. Spells false File source_room (sighted ts) tree) (only others cut') spells))
+  by_parser NoMemory first none = tt
 
   -- the parser read them
-  pub by_both : (tree : Tree) → Spells false File source_room (sighted found) tree → IsOnlyTree found tree → grammar.BreaksNone File found 0 → IsRead source tree
+  pub by_both : (tree : Tree) → Spells false File source_room (sighted found) tree → IsOnlyTree found tree → RefusesNone (grammar.Refuses File found 0) → IsRead source tree
   by_both tree spells one sound = record {
     has = (found, (cut, unbroken), spells, sound);
     only = λ other (others, (cut', unbroken'), spells', rest). one source_room other (subst (λ ts. Spells false File source_room (sighted ts) other) (only others cut') spells');
-    sound = λ refusal first. never refusal first;
+    unbroken = never;
+    sound = λ refusal first. never refusal first.refused;
   }
     where
-      never : (refusal : Refusal) → First source refusal → ⊥
-      never refusal (inl cause) = unbroken refusal.rule cause.0.0 cause.0.1
-      never refusal (inr (others, (cut', unbroken'), cause)) =
-          let same : grammar.IsCauseOf File found 0 (Refused refusal) = subst (λ ts. grammar.IsCauseOf File ts 0 (Refused refusal)) (only others cut') cause in
-          sound refusal.rule same.0 same.1.0
+      never : RefusesNone (Refuses source)
+      never = none_of_both (tokens.Refuses source) (RefusesTokens source) unbroken (λ refusal h. sound refusal (to_tokens refusal h))
 
   -- of the parser's answer for these tokens
   pub read_so : (r : Result Tree FrontError) → IfOk r (λ tree. Spells false File source_room (sighted found) tree) → IfOk r (λ tree. IsOnlyTree found tree)
-      → IfOk r (λ tree. grammar.BreaksNone File found 0) → IfOk r (λ tree. IsRead source tree)
+      → IfOk r (λ tree. RefusesNone (grammar.Refuses File found 0)) → IfOk r (λ tree. IsRead source tree)
   read_so (Err error) spells one sound = tt
   read_so (Ok tree) spells one sound = by_both tree spells one sound
 
-  pub refused_so : (r : Result Tree FrontError) → IfErr r (λ error. grammar.IsCauseOf File found 0 error) → IfErr r (λ error. HasNoTree found error) → IfErr r (λ error. IsRefusedBy source error)
-  refused_so (Ok tree) cause none = tt
-  refused_so (Err error) cause none = by_parser error cause none
+  pub stopped_so : (r : Result Tree FrontError) → IfErr r (λ error. IsCause (grammar.Refuses File found 0) error) → IfErr r (λ error. HasNoTree found error) → IfErr r (λ error. IsRefusedBy source error)
+  stopped_so (Ok tree) cause none = tt
+  stopped_so (Err error) cause none = by_parser error cause none

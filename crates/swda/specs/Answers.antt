@@ -1,17 +1,13 @@
--- What a call of the program comes to, and when: one relation by cases on its status.
-use Rattle.std.specs.Prelude.{◌≡◌, ◌≢◌, ◌⊎◌, ℕ, List, [], ◌∷◌, ◌++◌, length, take, Option, IfSome, codes}
-use Rattle.std.specs.Option.{option_map}
-use Rattle.swda.specs.ThinTree.{Stmt, Func}
-use Rattle.sw_outside.specs.Causes.{Rose}
-use Rattle.swda.specs.declared.history.Entry.{Entry}
-use Rattle.swda.specs.State.{MeaningState, Replays}
-use Rattle.swda.specs.History.{start, IsDriven, labels_of}
+-- What a call of the program comes to, and when: one relation of its words, its loader, its sink and its status.
+use Rattle.std.specs.Prelude.{◌≡◌, ◌≢◌, ◌⊎◌, ℕ, ◌≤◌, List, ◌++◌, Option, Some, codes}
+use Rattle.sw_thin.specs.ThinTree.{Stmt, main_func}
+use Rattle.sw_rules.specs.declared.Refusal.{Refusal}
 use Rattle.sw_rules.specs.Refusal.{line_text}
 use Rattle.sw_tree.specs.declared.decl.Tree.{Tree}
-use Rattle.swda.specs.Source.{main_func}
-use Rattle.swda.specs.ReadAs.{IsRead, IsRefused}
-use Rattle.swda.specs.ThinTreeOf.{IsThinTree, IsNoThinTree}
-use Rattle.swda.specs.Report.{report_text}
+use Rattle.swda.specs.ReadAs.{HasTree, First, IsRead, IsRefused}
+use Rattle.sw_thin.specs.Thin.{IsThinTree, IsNoThinTree}
+use Rattle.sw_thin.specs.Reports.{Reports}
+use Rattle.swda.specs.Calls.{Call, Output, Files, run_words, IsGiven, Gave, AsksNothing, FailsAtSource, FailsAtPlan, WritesNothing, WritesWhole, WritesPrefix}
 use Rattle.swda.specs.declared.status.Status.{Status}
 use Rattle.swda.specs.declared.status.Status.TheVariants.{Done, Refused, Usage, LoadFault, WriteFault, WantOfMemory, NotBuilt}
 
@@ -28,74 +24,105 @@ not_built_text = codes "not built\n"
 abbrev pub plan_text : List ℕ
 plan_text = codes "swda-plan 1\nnodes 1\ntask 0 main\n"
 
--- the words of the form that is served so far
-abbrev pub run_words : List ℕ → List ℕ → List (List ℕ)
-run_words file plan = codes "run" ∷ file ∷ plan ∷ []
-
 abbrev pub IsNoForm : List (List ℕ) → Type 0
-IsNoForm words = (file plan : List ℕ) → words ≢ run_words file plan
+IsNoForm words = (names : Files) → words ≢ run_words names
 
--- the text reports the run of this func as the root task of one node: the one kept history of the driver's
--- events, up to where none is next; its labels replay, and the text has the logs and outcomes of their state
-pub record Reports (main : Func) (text : List ℕ) : Type 0 where
-  pub entries : List Entry
-  pub state : MeaningState
-  pub driven : IsDriven (start main) entries state
-  pub one : (others : List Entry) (other : MeaningState) → IsDriven (start main) others other → (others ≡ entries) × (other ≡ state)
-  pub replays : Replays (start main) (labels_of entries) state
-  pub text_is : text ≡ report_text state (length entries)
+-- the status of a run of these files, and the text that says it
+abbrev pub RunSays : Files → Status → List ℕ → Type 0
+RunSays files Done text = (tree : Tree) × (body : List Stmt) × IsRead files.source tree × IsThinTree body tree × (files.plan ≡ plan_text) × Reports (main_func body) text
+RunSays files (Refused refusal) text = IsRefused files.source refusal × (text ≡ line_text refusal)
+RunSays files NotBuilt text = (tree : Tree) × IsRead files.source tree × (IsNoThinTree tree ⊎ (files.plan ≢ plan_text)) × (text ≡ not_built_text)
+RunSays files Usage text = ⊥
+RunSays files (LoadFault name) text = ⊥
+RunSays files WriteFault text = ⊥
+RunSays files WantOfMemory text = ⊥
 
--- the status and the text of a run of these files
-abbrev pub RunSays : List ℕ → List ℕ → Status → List ℕ → Type 0
-RunSays source plan Done text = (tree : Tree) × (body : List Stmt) × IsRead source tree × IsThinTree body tree × (plan ≡ plan_text) × Reports (main_func body) text
-RunSays source plan (Refused refusal) text = IsRefused source refusal × (text ≡ line_text refusal)
-RunSays source plan NotBuilt text = (tree : Tree) × IsRead source tree × (IsNoThinTree tree ⊎ (plan ≢ plan_text)) × (text ≡ not_built_text)
-RunSays source plan _ text = ⊥
+-- the same of the files that the loader gave in this call
+pub record SaysOfFiles (c : Call) (status : Status) (text : List ℕ) : Type 0 where
+  pub names : Files
+  pub texts : Files
+  pub gave : Gave c names texts
+  pub says : RunSays texts status text
 
--- a call: its words; what the loader tells of each name; the names asked and the loader's count of faults,
--- before and after
-pub record Call : Type 0 where
-  pub words : List (List ℕ)
-  pub holds : List ℕ → Option (List ℕ)
-  pub asked : List (List ℕ)
-  pub asked' : List (List ℕ)
-  pub faults : ℕ
-  pub faults' : ℕ
-
--- a text that was loaded is what the loader tells of its name, where it tells it
-abbrev pub Gave : Call → List ℕ → List ℕ → Type 0
-Gave c name text = IfSome (c.holds name) (λ held. text ≡ held)
-
--- the names asked are the file words up to and with the one whose load failed
-abbrev pub FailsAt : List (List ℕ) → List (List ℕ) → List ℕ → List ℕ → List ℕ → Type 0
-FailsAt asked asked' file plan name =
-    ((name ≡ file) × (asked' ≡ asked ++ file ∷ [])) ⊎ ((name ≡ plan) × (asked' ≡ asked ++ file ∷ plan ∷ []))
-
--- the status and the text of a call, up to its writing
+-- the status of a call up to its writing, and the text that says it
 abbrev pub Says : Call → Status → List ℕ → Type 0
-Says c Usage text = IsNoForm c.words × (c.asked' ≡ c.asked) × (text ≡ usage_text)
-Says c (LoadFault name) text = (file plan : List ℕ) × (c.words ≡ run_words file plan) × Rose c.faults c.faults'
-    × FailsAt c.asked c.asked' file plan name × (text ≡ load_fault_text name)
-Says c status text = (file plan : List ℕ) × (c.words ≡ run_words file plan) × (c.asked' ≡ c.asked ++ file ∷ plan ∷ [])
-    × (source : List ℕ) × (plan_bytes : List ℕ) × Gave c file source × Gave c plan plan_bytes × RunSays source plan_bytes status text
+Says c Done text = SaysOfFiles c Done text
+Says c (Refused refusal) text = SaysOfFiles c (Refused refusal) text
+Says c Usage text = IsNoForm c.words × AsksNothing c × (text ≡ usage_text)
+Says c (LoadFault name) text = (names : Files) × ((FailsAtSource c names × (name ≡ names.source)) ⊎ (FailsAtPlan c names × (name ≡ names.plan))) × (text ≡ load_fault_text name)
+Says c NotBuilt text = SaysOfFiles c NotBuilt text
+Says c WriteFault text = ⊥
+Says c WantOfMemory text = ⊥
 
--- the bytes taken after a text, where they are told
-abbrev pub with_text : List ℕ → Option (List ℕ) → Option (List ℕ)
-with_text text taken = option_map (λ t. t ++ text) taken
-
--- a sink over a call: the bytes taken and its count of faults, before and after
-pub record Sunk : Type 0 where
-  pub taken : Option (List ℕ)
-  pub taken' : Option (List ℕ)
-  pub faults : ℕ
-  pub faults' : ℕ
-
--- some front of the text that was to be written is taken
-abbrev pub WritesFront : Call → Option (List ℕ) → Option (List ℕ) → Type 0
-WritesFront c taken taken' = (status : Status) × (text : List ℕ) × Says c status text × (n : ℕ) × (taken' ≡ with_text (take n text) taken)
+-- what the call says was written whole
+abbrev pub SaysWhole : Call → Output → Status → Type 0
+SaysWhole c o status = (text : List ℕ) × Says c status text × WritesWhole o text
 
 -- each status with its cause, and the bytes that the sink took
-abbrev pub Answers : Call → Sunk → Status → Type 0
-Answers c s WriteFault = Rose s.faults s.faults' × WritesFront c s.taken s.taken'
-Answers c s WantOfMemory = s.taken' ≡ s.taken
-Answers c s status = (text : List ℕ) × Says c status text × (s.taken' ≡ with_text text s.taken)
+abbrev pub Answers : Call → Output → Status → Type 0
+Answers c o Done = SaysWhole c o Done
+Answers c o (Refused refusal) = SaysWhole c o (Refused refusal)
+Answers c o Usage = SaysWhole c o Usage
+Answers c o (LoadFault name) = SaysWhole c o (LoadFault name)
+Answers c o NotBuilt = SaysWhole c o NotBuilt
+Answers c o WriteFault = (status : Status) × (text : List ℕ) × Says c status text × WritesPrefix o text
+Answers c o WantOfMemory = WritesNothing o
+
+-- the words name these files, and the loader holds these texts of them, where it tells that, or gave them in this call
+pub record Has (c : Call) (names texts : Files) : Type 0 where
+  pub words : c.words ≡ run_words names
+  pub told : ((c.before.holds names.source ≡ Some texts.source) × (c.before.holds names.plan ≡ Some texts.plan)) ⊎ IsGiven c names texts
+
+-- what may come where the words are of no form
+abbrev pub IsUsageOrFault : Status → Type 0
+IsUsageOrFault Done = ⊥
+IsUsageOrFault (Refused refusal) = ⊥
+IsUsageOrFault Usage = Unit {0}
+IsUsageOrFault (LoadFault name) = ⊥
+IsUsageOrFault WriteFault = Unit {0}
+IsUsageOrFault WantOfMemory = Unit {0}
+IsUsageOrFault NotBuilt = ⊥
+
+-- what may come where there are a source of a thin tree and the plan that is served
+abbrev pub IsDoneOrFault : Status → Type 0
+IsDoneOrFault Done = Unit {0}
+IsDoneOrFault (Refused refusal) = ⊥
+IsDoneOrFault Usage = ⊥
+IsDoneOrFault (LoadFault name) = Unit {0}
+IsDoneOrFault WriteFault = Unit {0}
+IsDoneOrFault WantOfMemory = Unit {0}
+IsDoneOrFault NotBuilt = ⊥
+
+-- what may come where there is a source that breaks a rule
+abbrev pub IsRefusedOrFault : Status → Type 0
+IsRefusedOrFault Done = ⊥
+IsRefusedOrFault (Refused refusal) = Unit {0}
+IsRefusedOrFault Usage = ⊥
+IsRefusedOrFault (LoadFault name) = Unit {0}
+IsRefusedOrFault WriteFault = Unit {0}
+IsRefusedOrFault WantOfMemory = Unit {0}
+IsRefusedOrFault NotBuilt = ⊥
+
+-- what may come where there is a source of another tree, or another plan
+abbrev pub IsNotBuiltOrFault : Status → Type 0
+IsNotBuiltOrFault Done = ⊥
+IsNotBuiltOrFault (Refused refusal) = ⊥
+IsNotBuiltOrFault Usage = ⊥
+IsNotBuiltOrFault (LoadFault name) = Unit {0}
+IsNotBuiltOrFault WriteFault = Unit {0}
+IsNotBuiltOrFault WantOfMemory = Unit {0}
+IsNotBuiltOrFault NotBuilt = Unit {0}
+
+-- The whole answer of a call. The status has its cause; and it comes wherever its condition holds, up to faults of the
+-- loader and the sink and want of memory. No count of faults falls.
+pub record Answered (c : Call) (o : Output) (status : Status) : Type 0 where
+  pub cause : Answers c o status
+  pub done_completes : (names texts : Files) (tree : Tree) (body : List Stmt) → Has c names texts
+      → HasTree texts.source tree → IsThinTree body tree → texts.plan ≡ plan_text → IsDoneOrFault status
+  pub refused_completes : (names texts : Files) (refusal : Refusal) → Has c names texts
+      → First texts.source refusal → IsRefusedOrFault status
+  pub usage_completes : IsNoForm c.words → IsUsageOrFault status
+  pub not_built_completes : (names texts : Files) (tree : Tree) → Has c names texts
+      → HasTree texts.source tree → (IsNoThinTree tree ⊎ (texts.plan ≢ plan_text)) → IsNotBuiltOrFault status
+  pub loads : c.before.faults ≤ c.after.faults
+  pub writes : o.before.faults ≤ o.after.faults

@@ -1,8 +1,9 @@
 -- What a source is read as: its tree, or the first rule that it breaks before names are looked at.
-use Rattle.std.specs.Prelude.{◌≡◌, ◌⊎◌, false, List}
+use Rattle.std.specs.Prelude.{◌≡◌, false, List}
 use Rattle.sw_rules.specs.declared.Refusal.{Refusal}
 use Rattle.sw_rules.specs.declared.FrontError.{FrontError}
 use Rattle.sw_rules.specs.declared.FrontError.TheVariants.{Refused, NoMemory}
+use Rattle.sw_rules.specs.Pass.{IsFirst, RefusesNone, Then}
 use Rattle.sw_lex.specs.declared.token.Token.{Token}
 use Rattle.sw_lex.specs.Bytes.{Text}
 use Rattle.sw_lex.specs.Tokens.{CutsInto}
@@ -15,28 +16,36 @@ use Rattle.sw_syntax.specs.Refusals as grammar
 
 -- the source breaks no rule of tokens, and is cut into these
 abbrev pub HasTokens : Text → List Token → Type 0
-HasTokens source found = CutsInto source found × tokens.BreaksNone source
+HasTokens source found = CutsInto source found × RefusesNone (tokens.Refuses source)
 
 -- its tokens break no rule of the grammar, and spell this tree
 abbrev pub HasTree : Text → Tree → Type 0
 HasTree source tree =
-    (found : List Token) × HasTokens source found × Spells false File source_room (sighted found) tree × grammar.BreaksNone File found 0
+    (found : List Token) × HasTokens source found × Spells false File source_room (sighted found) tree × RefusesNone (grammar.Refuses File found 0)
 
--- The first rule that the source breaks, and its place: of tokens; or, where it breaks none of these, of the grammar.
+-- the pass over the grammar: the tokens that the source is cut into break the rule at the place
+abbrev pub RefusesTokens : Text → Refusal → Type 0
+RefusesTokens source refusal = (found : List Token) × CutsInto source found × grammar.Refuses File found 0 refusal
+
+-- the pass over tokens, and then the pass over the grammar
+abbrev pub Refuses : Text → Refusal → Type 0
+Refuses source = Then (tokens.Refuses source) (RefusesTokens source)
+
+-- the first rule that the source breaks, and its place
 abbrev pub First : Text → Refusal → Type 0
-First source refusal =
-    tokens.IsFirstBroken source refusal
-    ⊎ ((found : List Token) × HasTokens source found × grammar.IsCauseOf File found 0 (Refused refusal))
+First source refusal = IsFirst (Refuses source) refusal
 
--- the source has this tree, no other, and is not refused
+-- the source has this tree, no other, and breaks no rule, so none is the first
 pub record IsRead (source : Text) (tree : Tree) : Type 0 where
   pub has : HasTree source tree
   pub only : (other : Tree) → HasTree source other → other ≡ tree
+  pub unbroken : RefusesNone (Refuses source)
   pub sound : (refusal : Refusal) → First source refusal → ⊥
 
--- the source is refused so, and has no tree
+-- the source is refused so, in no other way, and has no tree
 pub record IsRefused (source : Text) (refusal : Refusal) : Type 0 where
   pub first : First source refusal
+  pub only : (other : Refusal) → First source other → other ≡ refusal
   pub none : (tree : Tree) → HasTree source tree → ⊥
 
 -- want of memory says nothing

@@ -16,7 +16,7 @@ pub enum Status {
     Usage,
     /// 3: the file of this name could not be loaded.
     LoadFault { name: Text },
-    /// 4: the sink failed. It took a front of what was to be written.
+    /// 4: the sink failed. It took a prefix of what was to be written.
     WriteFault,
     /// 10: memory was wanted. Nothing is written.
     WantOfMemory,

@@ -1,5 +1,6 @@
-//! Worked calls of the program, over loaders and sinks in memory.
+//! Worked calls of the program, over loaders and sinks in memory, and the real files and output.
 
+mod files;
 mod outside;
 mod refused;
 

@@ -1,25 +1,18 @@
 //! The top call: from the words of a call to its status, over a loader and a sink.
 
-ghost use Rattle.std.specs.Prelude.{◌≡◌, ◌≢◌, ◌⊎◌, ℕ, ◌≤◌, List, Some, IfOk, MatchOption};
-ghost use Rattle.swda.specs.ThinTree.{Stmt};
-ghost use Rattle.sw_outside.specs.Causes.{Rose};
-ghost use Rattle.sw_rules.specs.declared.Refusal.{Refusal as RefusalFound};
+ghost use Rattle.std.specs.Prelude.{◌≡◌, ℕ, ◌≤◌, List, IfOk, MatchOption};
 ghost use Rattle.sw_rules.specs.Refusal.{line_text};
-ghost use Rattle.sw_tree.specs.declared.decl.Tree.{Tree};
-ghost use Rattle.swda.specs.ReadAs.{HasTree, First};
-ghost use Rattle.swda.specs.ThinTreeOf.{IsThinTree, IsNoThinTree};
-ghost use Rattle.swda.specs.Answers.{run_words, plan_text, usage_text, load_fault_text, not_built_text, with_text, IsNoForm, RunSays, Says, WritesFront, Answers};
-ghost use Rattle.swda.specs.Rows.{DoneRow, RefusedRow, LoadFaultRow, NotBuiltRow, AsksBoth, IsDoneOrFault, IsRefusedOrFault, IsUsageOrFault, IsNotBuiltOrFault};
+ghost use Rattle.swda.specs.Calls.{run_words};
+ghost use Rattle.swda.specs.Answers.{usage_text, load_fault_text, not_built_text, IsNoForm, RunSays, Says, Answers, Answered};
 
 use crate::output::write_all;
 use crate::reading::read;
-use crate::run::report_of;
 use crate::status::Status;
-use crate::thin_tree::thin_body;
 use std::alloc::Global;
 use sw_base::{Duplicate, NoMemory, Text};
 use sw_outside::{Failed, LoadError, Loader, Sink};
 use sw_rules::{FrontError, Refusal, line};
+use sw_thin::{report_of, thin_body};
 
 const USAGE: &[u8] =
     b"usage: swda check FILE | list FILE | run FILE PLAN | replay FILE PLAN SCHEDULE | threads FILE PLAN WORKERS | gen SEED SIZE\n";
@@ -37,7 +30,7 @@ struct Said {
 
 /// The file and the plan of the form `run FILE PLAN`; none where the words are of another form.
 fn run_form(words: &[Text]) -> Option<(&Text, &Text)>
-    ensures { MatchOption result (IsNoForm words.now) (λ r. words.now ≡ run_words r.0.now r.1.now) }
+    ensures { MatchOption result (IsNoForm words.now) (λ r. words.now ≡ run_words (record { source = r.0.now; plan = r.1.now })) }
 {
     match words {
         [command, file, plan] if command.as_bytes() == b"run".as_slice() => Some((file, plan)),
@@ -90,7 +83,7 @@ fn refused(alloc: Global, refusal: Refusal) -> Result<Said, NoMemory>
 
 /// What is said of the run of a source under a plan.
 fn run(alloc: Global, source: &[u8], plan: &[u8]) -> Result<Said, NoMemory>
-    ensures { IfOk result (λ said. RunSays source.now plan.now said.status said.text) }
+    ensures { IfOk result (λ said. RunSays (record { source = source.now; plan = plan.now }) said.status said.text) }
 {
     let tree = match read(alloc, source) {
         Ok(tree) => tree,
@@ -113,11 +106,8 @@ fn run(alloc: Global, source: &[u8], plan: &[u8]) -> Result<Said, NoMemory>
 fn outcome<L: Loader>(alloc: Global, words: &[Text], loader: &mut L) -> Result<Said, NoMemory>
     ensures says { IfOk result (λ said. Says (record {
       words = words.now;
-      holds = L.holds loader.old;
-      asked = L.asked loader.old;
-      asked' = L.asked loader.new;
-      faults = L.faults loader.old;
-      faults' = L.faults loader.new;
+      before = record { holds = L.holds loader.old; asked = L.asked loader.old; given = L.given loader.old; faults = L.faults loader.old };
+      after = record { holds = L.holds loader.new; asked = L.asked loader.new; given = L.given loader.new; faults = L.faults loader.new };
     }) said.status said.text) }
     ensures later { L.faults loader.old ≤ L.faults loader.new }
 {
@@ -142,17 +132,12 @@ fn outcome<L: Loader>(alloc: Global, words: &[Text], loader: &mut L) -> Result<S
 fn answer<L: Loader, S: Sink>(alloc: Global, words: &[Text], loader: &mut L, sink: &mut S) -> Status
     ensures answer { Answers (record {
       words = words.now;
-      holds = L.holds loader.old;
-      asked = L.asked loader.old;
-      asked' = L.asked loader.new;
-      faults = L.faults loader.old;
-      faults' = L.faults loader.new;
+      before = record { holds = L.holds loader.old; asked = L.asked loader.old; given = L.given loader.old; faults = L.faults loader.old };
+      after = record { holds = L.holds loader.new; asked = L.asked loader.new; given = L.given loader.new; faults = L.faults loader.new };
     })
         (record {
-          taken = S.taken sink.old;
-          taken' = S.taken sink.new;
-          faults = S.faults sink.old;
-          faults' = S.faults sink.new;
+          before = record { taken = S.taken sink.old; faults = S.faults sink.old };
+          after = record { taken = S.taken sink.new; faults = S.faults sink.new };
         }) result }
     ensures loads { L.faults loader.old ≤ L.faults loader.new }
     ensures writes { S.faults sink.old ≤ S.faults sink.new }
@@ -180,7 +165,8 @@ fn answer<L: Loader, S: Sink>(alloc: Global, words: &[Text], loader: &mut L, sin
 /// - `LoadFault`: the loader failed at the file word with this name. The text names it.
 /// - `NotBuilt`: the loader gave both files, the source breaks no such rule, and its tree is no thin one or the plan is
 ///   another one. The text is `not built`.
-/// - `WriteFault`: the sink failed. It has taken a front of the text that another status would have had.
+/// - `WriteFault`: the sink failed. It has taken a prefix of the text that another status would have had, and not the
+///   whole of it.
 /// - `WantOfMemory`: memory was wanted. The sink has taken nothing. No clause says when it comes.
 pub fn swda<L: Loader, S: Sink>(
     alloc: Global,
@@ -188,55 +174,15 @@ pub fn swda<L: Loader, S: Sink>(
     loader: &mut L,
     sink: &mut S,
 ) -> Status
-    // 0: exactly on these words and files, up to faults and want of memory
-    ensures done { result ≡ Status.Done → DoneRow words.now (L.holds loader.old) (S.taken sink.old) (S.taken sink.new) }
-    ensures done_completes { (file plan source : List ℕ) (tree : Tree) (body : List Stmt) → words.now ≡ run_words file plan
-        → L.holds loader.old file ≡ Some source → L.holds loader.old plan ≡ Some plan_text
-        → HasTree source tree → IsThinTree body tree → IsDoneOrFault result }
-    ensures asked { result ≡ Status.Done → AsksBoth words.now (L.asked loader.old) (L.asked loader.new) }
-
-    // 1: exactly on a source that breaks a rule, up to faults and want of memory
-    ensures refused { (refusal : RefusalFound) → result ≡ Status.Refused refusal
-        → RefusedRow refusal words.now (L.holds loader.old) (S.taken sink.old) (S.taken sink.new) }
-    ensures refused_completes { (file plan source p : List ℕ) (refusal : RefusalFound) → words.now ≡ run_words file plan
-        → L.holds loader.old file ≡ Some source → L.holds loader.old plan ≡ Some p
-        → First source refusal → IsRefusedOrFault result }
-    ensures asked_refused { (refusal : RefusalFound) → result ≡ Status.Refused refusal
-        → AsksBoth words.now (L.asked loader.old) (L.asked loader.new) }
-
-    // 2: exactly on words of no form, up to faults of the sink and want of memory
-    ensures usage { result ≡ Status.Usage → IsNoForm words.now × (S.taken sink.new ≡ with_text usage_text (S.taken sink.old))
-        × (L.asked loader.new ≡ L.asked loader.old) }
-    ensures usage_completes { IsNoForm words.now → IsUsageOrFault result }
-
-    // 3: only where the loader told a fault
-    ensures load_fault { (name : List ℕ) → result ≡ Status.LoadFault name → Rose (L.faults loader.old) (L.faults loader.new) }
-    ensures load_fault_row { (name : List ℕ) → result ≡ Status.LoadFault name
-        → LoadFaultRow name words.now (L.asked loader.old) (L.asked loader.new) (S.taken sink.old) (S.taken sink.new) }
-    ensures loads { L.faults loader.old ≤ L.faults loader.new }
-
-    // 4: only where the sink told a fault
-    ensures write_fault { result ≡ Status.WriteFault → Rose (S.faults sink.old) (S.faults sink.new) }
-    ensures front { result ≡ Status.WriteFault → WritesFront (record {
+    ensures { Answered (record {
       words = words.now;
-      holds = L.holds loader.old;
-      asked = L.asked loader.old;
-      asked' = L.asked loader.new;
-      faults = L.faults loader.old;
-      faults' = L.faults loader.new;
-    }) (S.taken sink.old) (S.taken sink.new) }
-    ensures writes { S.faults sink.old ≤ S.faults sink.new }
-
-    // 10: nothing is written
-    ensures memory { result ≡ Status.WantOfMemory → S.taken sink.new ≡ S.taken sink.old }
-
-    // 11: exactly on files beyond what is built, up to faults and want of memory
-    ensures not_built { result ≡ Status.NotBuilt
-        → NotBuiltRow words.now (L.holds loader.old) (S.taken sink.old) (S.taken sink.new) }
-    ensures not_built_completes { (file plan source p : List ℕ) (tree : Tree) → words.now ≡ run_words file plan
-        → L.holds loader.old file ≡ Some source → L.holds loader.old plan ≡ Some p
-        → HasTree source tree → (IsNoThinTree tree ⊎ (p ≢ plan_text)) → IsNotBuiltOrFault result }
-    ensures asked_not_built { result ≡ Status.NotBuilt → AsksBoth words.now (L.asked loader.old) (L.asked loader.new) }
+      before = record { holds = L.holds loader.old; asked = L.asked loader.old; given = L.given loader.old; faults = L.faults loader.old };
+      after = record { holds = L.holds loader.new; asked = L.asked loader.new; given = L.given loader.new; faults = L.faults loader.new };
+    })
+        (record {
+          before = record { taken = S.taken sink.old; faults = S.faults sink.old };
+          after = record { taken = S.taken sink.new; faults = S.faults sink.new };
+        }) result }
 {
     answer(alloc, words, loader, sink)
 }

@@ -1,6 +1,6 @@
 use Rattle.std.proofs.Common.{◌≡◌, ◌<◌, ◌≤◌, ◌+◌, ◌*◌, drop, length, ◌-◌, [], ℕ, List}
 use Rattle.sw_syntax.specs.Bodies.{arm_list, body_from, branches_from, catches_from}
-use Rattle.sw_syntax.specs.Meaning.{read}
+use Rattle.sw_syntax.specs.Answering.{read}
 use Rattle.sw_syntax.specs.Symbols as symbol
 use Rattle.sw_syntax.specs.Symbols.{Place}
 use Rattle.sw_syntax.specs.Tokens.{Sighted}

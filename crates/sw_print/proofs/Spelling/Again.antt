@@ -11,7 +11,8 @@ use Rattle.sw_tree.specs.declared.stmt.SwitchArm.{SwitchArm}
 use Rattle.sw_tree.specs.declared.decl.Decl.{Decl}
 use Rattle.sw_tree.specs.declared.expr.Expr.{Expr as ExprTree}
 use Rattle.sw_tree.specs.declared.types.«Type».{«Type» as TypeTree}
-use Rattle.sw_syntax.specs.Tokens.{Sighted, Face, face_of}
+use Rattle.sw_syntax.specs.declared.class.Sight.{Sight}
+use Rattle.sw_syntax.specs.Tokens.{Sighted, Face}
 use Rattle.sw_syntax.specs.Symbols.{Decls, Members, Items, Requirements, Place, InBlock, InArm, Open, Closed, Body, Symbol, Sort, File, Some', Rest, Item, Param, Case, Payload, Block, Sbody, Stmts, AfterStmt, AfterReturn, Stmt', If, Arms, Cond, Pat, Cpat, Type', Base, Expr, Tern, Bin, Prefix, Post, Form, Arg, Prim, Elements}
 use Rattle.sw_syntax.specs.Parts.{P}
 use Rattle.sw_syntax.specs.Tests.{is_joined_question}
@@ -50,10 +51,10 @@ use Rattle.sw_print.proofs.Spelling.ItemLists.{ItemAgain, SomeAgain, RestAgain, 
 
 -- a text of the symbol, of whatever height; and a value that good tokens spell, at most this high
 abbrev pub D : (s : Symbol) → ℕ → ℕ → ℕ → ℕ → List Sighted → Sort s → Type 0
-D = Derived Sighted Face Symbol Sort face_of (rule false)
+D = Derived Sight Face Symbol Sort (rule false)
 
 abbrev pub B : ℕ → (s : Symbol) → ℕ → ℕ → ℕ → ℕ → Sort s → Type 0
-B n s d l c e x = (u : List Sighted) × Ok u × Derives Sighted Face Symbol Sort face_of (rule false) n s d l c e u x
+B n s d l c e x = (u : List Sighted) × Ok u × Derives Sight Face Symbol Sort (rule false) n s d l c e u x
 
 -- what is written for each value of the symbol spells it
 abbrev pub Again : ℕ → Symbol → Type 0
@@ -91,26 +92,26 @@ Again n File = Unit {0}
 module _ (n : ℕ) (s : Symbol) where
   higher : {d l c e : ℕ} {x : Sort s} {words : List Word} {behind : List Token} → Made D (rule false s) d l c e x words behind → Made D (symbol s) d l c e x words behind
   higher {d = d} {l = l} {c = c} {e = e} {x = x} p =
-      record { good = p.good; run = p.run; alike = p.alike; derives = derived Sighted Face Symbol Sort face_of (rule false) s d l c e p.run x p.derives }
+      record { good = p.good; run = p.run; alike = p.alike; derives = derived Sight Face Symbol Sort (rule false) s d l c e p.run x p.derives }
 
   raised : {d l c e : ℕ} {x : Sort s} {words : List Word} {behind : List Token} → Spelt D (B n) (rule false s) d l c e x words behind → Spelt D (B (suc n)) (symbol s) d l c e x words behind
   raised p = record { headed = p.headed; made = higher p.made }
 
 -- what tokens derive is built of them
-pub part : (n : ℕ) {A : Type 0} (a : P A) (d l c e : ℕ) (u : List Sighted) (x : A) → Ok u → Derives_by Sighted Face Symbol Sort face_of (rule false) (Derives Sighted Face Symbol Sort face_of (rule false) n) a d l c e u x → BuiltOf (B n) a d l c e x
+pub part : (n : ℕ) {A : Type 0} (a : P A) (d l c e : ℕ) (u : List Sighted) (x : A) → Ok u → Derives_by Sight Face Symbol Sort (rule false) (Derives Sight Face Symbol Sort (rule false) n) a d l c e u x → BuiltOf (B n) a d l c e x
 part n a d l c e u x ok p =
-    built_by Sighted Face Symbol Sort face_of (rule false) IsGood Ok halves one (Derives Sighted Face Symbol Sort face_of (rule false) n) (B n) (λ s d l c e u x ok p. (u, ok, p)) a d l c e u x ok p
+    built_by Sight Face Symbol Sort (rule false) IsGood Ok halves one (Derives Sight Face Symbol Sort (rule false) n) (B n) (λ s d l c e u x ok p. (u, ok, p)) a d l c e u x ok p
 
 production : (n : ℕ) (s : Symbol) (d l c e : ℕ) (x : Sort s) → B (suc n) s d l c e x → BuiltOf (B n) (rule false s) d l c e x
 production n s d l c e x (u, ok, p) = part n (rule false s) d l c e u x ok p
 
 -- a text of an expression begins as one does
 starts_as_expr : (d l c e : ℕ) (u : List Sighted) (x : ExprTree) → D Expr d l c e u x → starts.Starts false (heads Expr) u
-starts_as_expr d l c e u x (n, p) = starts.starts_n Sighted Face Symbol Sort face_of (rule false) heads empties tails (is_decided false).table n Expr d l c e u x p
+starts_as_expr d l c e u x (n, p) = starts.starts_n Sight Face Symbol Sort (rule false) heads empties tails (is_decided false).table n Expr d l c e u x p
 
 -- of marks behind a type at most one touches what precedes
 few : (n d l c e : ℕ) (u : List Sighted) (marks : List Face) → StandApart u
-    → Derives_by Sighted Face Symbol Sort face_of (rule false) (Derives Sighted Face Symbol Sort face_of (rule false) n) (many (counts (mark is_joined_question))) d l c e u marks
+    → Derives_by Sight Face Symbol Sort (rule false) (Derives Sight Face Symbol Sort (rule false) n) (many (counts (mark is_joined_question))) d l c e u marks
     → (marks ≡ []) ⊎ ((one : Face) × (marks ≡ one ∷ []))
 few n d l c e u [] h p = inl refl
 few n d l c e u (x ∷ []) h p = inr (x, refl)
@@ -127,7 +128,7 @@ typed n base d l c e y (u, ok, ((x, marks), (v, w, m, eu, p, q), h)) g behind =
 
 -- a text of a type begins as one does
 starts_as_type : (d l c e : ℕ) (u : List Sighted) (x : TypeTree) → D Type' d l c e u x → starts.Starts false (heads Type') u
-starts_as_type d l c e u x (n, p) = starts.starts_n Sighted Face Symbol Sort face_of (rule false) heads empties tails (is_decided false).table n Type' d l c e u x p
+starts_as_type d l c e u x (n, p) = starts.starts_n Sight Face Symbol Sort (rule false) heads empties tails (is_decided false).table n Type' d l c e u x p
 
 rising : (s : Symbol) → Rises D s
 rising s d l c e x words behind p = higher zero s p

@@ -32,10 +32,10 @@ pub wordy_reserved : (kind : TokenKind) → is_reserved_kind kind ≡ true → i
 wordy_reserved k.Name h = refl
 wordy_reserved kind h = h
 
-label_wordy : (t : Sighted) → IsGood t → is_label t ≡ true → is_wordy t.face.kind ≡ true
-label_wordy t good passed = elim (or_either (is_name t && t.before_colon) (is_reserved t && (t.before_colon || not (starts_expr t))) passed) [
-  | inl p ↦ ap is_wordy (name_kind t good (and_halves (is_name t) t.before_colon p).0)
-  | inr p ↦ wordy_reserved t.face.kind (reserved_kind t good (and_halves (is_reserved t) (t.before_colon || not (starts_expr t)) p).0)
+label_wordy : (t : Sighted) → IsGood t → is_label t.sight ≡ true → is_wordy t.face.kind ≡ true
+label_wordy t good passed = elim (or_either (is_name t.sight && t.sight.before_colon) (is_reserved t.sight && (t.sight.before_colon || not (starts_expr t.sight))) passed) [
+  | inl p ↦ ap is_wordy (name_kind t good (and_halves (is_name t.sight) t.sight.before_colon p).0)
+  | inr p ↦ wordy_reserved t.face.kind (reserved_kind t good (and_halves (is_reserved t.sight) (t.sight.before_colon || not (starts_expr t.sight)) p).0)
 ]
 
 pub by_name : (n r b s : Bool) → b ≡ true → n ≡ true → ((n && b) || (r && (b || not s))) ≡ true
@@ -55,13 +55,13 @@ either_word kind h = inr h
 
 -- the word of a label, before `:`, is one
 label_passes : (kind : TokenKind) (text : Text) (g : Gap) (behind : List Token) (face : Face) → is_wordy kind ≡ true → is_next k.Colon behind ≡ true
-    → is_label (placed face (seen (token_of (word kind text g)) behind)) ≡ true
+    → is_label (placed face (seen (token_of (word kind text g)) behind)).sight ≡ true
 label_passes kind text g behind face h next =
     let t : Sighted = placed face (seen (token_of (word kind text g)) behind) in
     elim (either_word kind h) [
-      | inl e ↦ by_name (is_name t) (is_reserved t) t.before_colon (starts_expr t) next
-          (ap (λ kind. is_name (placed face (seen (token_of (word kind text g)) behind))) e ∙ name_class text behind)
-      | inr p ↦ by_reserved (is_name t) (is_reserved t) t.before_colon (starts_expr t) next (reserved_class kind (token_of (word kind text g)) behind p)
+      | inl e ↦ by_name (is_name t.sight) (is_reserved t.sight) t.sight.before_colon (starts_expr t.sight) next
+          (ap (λ kind. is_name (placed face (seen (token_of (word kind text g)) behind)).sight) e ∙ name_class text behind)
+      | inr p ↦ by_reserved (is_name t.sight) (is_reserved t.sight) t.sight.before_colon (starts_expr t.sight) next (reserved_class kind (token_of (word kind text g)) behind p)
     ]
 
 -- ---- what has no label
@@ -83,7 +83,7 @@ heads_unlabelled [] behind run headed none alike starts = elim headed [ ]
 heads_unlabelled (w ∷ words) behind [] headed none alike starts = tt
 heads_unlabelled (w ∷ words) behind (t ∷ run) headed none alike starts =
     let same : unplaced t ≡ unplaced (seen (token_of w) (map token_of words ++ behind)) = first_same _ _ _ _ alike in
-    unlabelled_by (is_name t) (is_reserved t) t.before_colon (starts_expr t) (ap (λ t. t.before_colon) same ∙ no_colon_next words behind headed.1 none) starts
+    unlabelled_by (is_name t.sight) (is_reserved t.sight) t.sight.before_colon (starts_expr t.sight) (ap (λ t. t.sight.before_colon) same ∙ no_colon_next words behind headed.1 none) starts
 
 module _ (D : (s : Symbol) → ℕ → ℕ → ℕ → ℕ → List Sighted → Sort s → Type 0) (B : (s : Symbol) → ℕ → ℕ → ℕ → ℕ → Sort s → Type 0) where
   -- arg = (name :)? expr

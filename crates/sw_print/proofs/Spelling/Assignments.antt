@@ -6,6 +6,7 @@ use Rattle.sw_lex.specs.declared.token.Token.{Token}
 use Rattle.sw_grammar.specs.Grammar.{mark}
 use Rattle.sw_layout.specs.declared.gap.Gap.TheVariants as gap
 use Rattle.sw_layout.specs.Words.{plain, token_of}
+use Rattle.sw_syntax.specs.declared.class.Sight.{Sight}
 use Rattle.sw_syntax.specs.Tokens.{same_kind, Sighted, Face, seen}
 use Rattle.sw_syntax.specs.Symbols.{Symbol, Sort}
 use Rattle.sw_syntax.specs.Tests.{is, is_assignment, is_range}
@@ -18,12 +19,12 @@ use Rattle.sw_print.proofs.Spelling.Making.{Made, placed, reword}
 use Rattle.sw_print.proofs.Spelling.Marks.{BuiltOf, was_mark, make_plain}
 
 -- a mark that passes the test; written again by its kind, it is the same, and passes too
-record IsMark (f : Sighted → Bool) (again : TokenKind → TokenKind) (t : Sighted) : Type 0 where
+record IsMark (f : Sight → Bool) (again : TokenKind → TokenKind) (t : Sighted) : Type 0 where
   kind : TokenKind
   its : t.face.kind ≡ kind
   back : again kind ≡ kind
   one_text : is_free kind ≡ false
-  passes : (x : Face) (behind : List Token) → f (placed x (seen (token_of (plain kind gap.Space)) behind)) ≡ true
+  passes : (x : Face) (behind : List Token) → f (placed x (seen (token_of (plain kind gap.Space)) behind)).sight ≡ true
 
 abbrev assign_again : TokenKind → TokenKind
 assign_again kind = assign_mark (assign_of kind)
@@ -31,43 +32,43 @@ assign_again kind = assign_mark (assign_of kind)
 abbrev range_again : TokenKind → TokenKind
 range_again kind = range_mark (range_of kind)
 
-assignment : (t : Sighted) → IsGood t → is_assignment t ≡ true → IsMark is_assignment assign_again t
+assignment : (t : Sighted) → IsGood t → is_assignment t.sight ≡ true → IsMark is_assignment assign_again t
 unfolding same_kind
-assignment t good passed = elim (or_either (is k.Assign t) _ passed) [
+assignment t good passed = elim (or_either (is k.Assign t.sight) _ passed) [
   | inl p ↦ record { kind = k.Assign; its = is_kind k.Assign t good p; back = refl; one_text = refl; passes = λ x behind. refl }
   | inr p ↦ second p
 ]
   where
-    last : ((is k.SlashAssign t || is k.PercentAssign t) ≡ true) → IsMark is_assignment assign_again t
-    last p = elim (or_either (is k.SlashAssign t) _ p) [
+    last : ((is k.SlashAssign t.sight || is k.PercentAssign t.sight) ≡ true) → IsMark is_assignment assign_again t
+    last p = elim (or_either (is k.SlashAssign t.sight) _ p) [
       | inl p ↦ record { kind = k.SlashAssign; its = is_kind k.SlashAssign t good p; back = refl; one_text = refl; passes = λ x behind. refl }
       | inr p ↦ record { kind = k.PercentAssign; its = is_kind k.PercentAssign t good p; back = refl; one_text = refl; passes = λ x behind. refl }
     ]
 
-    third : ((is k.MinusAssign t || (is k.StarAssign t || (is k.SlashAssign t || is k.PercentAssign t))) ≡ true) → IsMark is_assignment assign_again t
-    third p = elim (or_either (is k.MinusAssign t) _ p) [
+    third : ((is k.MinusAssign t.sight || (is k.StarAssign t.sight || (is k.SlashAssign t.sight || is k.PercentAssign t.sight))) ≡ true) → IsMark is_assignment assign_again t
+    third p = elim (or_either (is k.MinusAssign t.sight) _ p) [
       | inl p ↦ record { kind = k.MinusAssign; its = is_kind k.MinusAssign t good p; back = refl; one_text = refl; passes = λ x behind. refl }
-      | inr p ↦ elim (or_either (is k.StarAssign t) _ p) [
+      | inr p ↦ elim (or_either (is k.StarAssign t.sight) _ p) [
         | inl p ↦ record { kind = k.StarAssign; its = is_kind k.StarAssign t good p; back = refl; one_text = refl; passes = λ x behind. refl }
         | inr p ↦ last p
       ]
     ]
 
-    second : ((is k.PlusAssign t || (is k.MinusAssign t || (is k.StarAssign t || (is k.SlashAssign t || is k.PercentAssign t)))) ≡ true) → IsMark is_assignment assign_again t
-    second p = elim (or_either (is k.PlusAssign t) _ p) [
+    second : ((is k.PlusAssign t.sight || (is k.MinusAssign t.sight || (is k.StarAssign t.sight || (is k.SlashAssign t.sight || is k.PercentAssign t.sight)))) ≡ true) → IsMark is_assignment assign_again t
+    second p = elim (or_either (is k.PlusAssign t.sight) _ p) [
       | inl p ↦ record { kind = k.PlusAssign; its = is_kind k.PlusAssign t good p; back = refl; one_text = refl; passes = λ x behind. refl }
       | inr p ↦ third p
     ]
 
-range_end : (t : Sighted) → IsGood t → is_range t ≡ true → IsMark is_range range_again t
+range_end : (t : Sighted) → IsGood t → is_range t.sight ≡ true → IsMark is_range range_again t
 unfolding same_kind
-range_end t good passed = elim (or_either (is k.HalfOpenRange t) (is k.Ellipsis t) passed) [
+range_end t good passed = elim (or_either (is k.HalfOpenRange t.sight) (is k.Ellipsis t.sight) passed) [
   | inl p ↦ record { kind = k.HalfOpenRange; its = is_kind k.HalfOpenRange t good p; back = refl; one_text = refl; passes = λ x behind. refl }
   | inr p ↦ record { kind = k.Ellipsis; its = is_kind k.Ellipsis t good p; back = refl; one_text = refl; passes = λ x behind. refl }
 ]
 
 module _ (D : (s : Symbol) → ℕ → ℕ → ℕ → ℕ → List Sighted → Sort s → Type 0) (B : (s : Symbol) → ℕ → ℕ → ℕ → ℕ → Sort s → Type 0) where
-  make_marked : (f : Sighted → Bool) (again : TokenKind → TokenKind) → ((t : Sighted) → IsGood t → f t ≡ true → IsMark f again t)
+  make_marked : (f : Sight → Bool) (again : TokenKind → TokenKind) → ((t : Sighted) → IsGood t → f t.sight ≡ true → IsMark f again t)
       → (behind : List Token) (d l c e : ℕ) (x : Face) → BuiltOf B (mark f) d l c e x → Made D (mark f) d l c e x (plain (again x.kind) gap.Space ∷ []) behind
   make_marked f again told behind d l c e x (t, good, is, ex, ec) =
       let one = told t good is in

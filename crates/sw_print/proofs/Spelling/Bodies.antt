@@ -26,7 +26,7 @@ use Rattle.sw_print.proofs.Spelling.Good.{IsOfKind}
 use Rattle.sw_print.proofs.Spelling.Making.{Made, make_both, make_gives, make_left, make_right, make_none, make_some, make_mark, reword}
 use Rattle.sw_print.proofs.Spelling.Marks.{BuiltOf, make_place}
 use Rattle.sw_print.proofs.Spelling.Texts.{PartAgain}
-use Rattle.sw_print.proofs.Spelling.Lines.{Again, Laid, Rises, NoPlace, make_when, whole_expr_again}
+use Rattle.sw_print.proofs.Spelling.Lines.{Again, Laid, Rises, make_when, whole_expr_again}
 use Rattle.sw_print.proofs.Spelling.Firsts.{begun_append, dot_append, expr_begun, stmt_begun, heads_below, heads_on_line}
 use Rattle.sw_print.proofs.Spelling.StmtLayers.{arm_words, words_return}
 
@@ -60,10 +60,6 @@ fits_empty InBlock = refl
 fits_empty InArm = tt
 
 -- ---- the tests of what stands first
-
-below_no_place : (ending : Ending) → NoPlace (begins_below ending)
-below_no_place Open t = refl
-below_no_place Closed t = refl
 
 label_first : (label : ArmLabel) (v w : List Word) (behind : List Token) → Heads is_first (seen_in ((label_words label gap.Line ++ v) ++ w) behind)
 label_first (arm.Case patterns) v w behind = refl
@@ -154,8 +150,8 @@ module _ (D : (s : Symbol) → ℕ → ℕ → ℕ → ℕ → List Sighted → 
   -- at the start of a line
   by_line : (at : Place) (ending : Ending) (d l c e : ℕ) (body : Body) (w : List Word) (behind : List Token) → Heads (begins_below ending) (seen_in w behind)
       → Made D (symbol (Stmts at)) d l c e body w behind → Made D (next_stmts at ending) d l c e body w behind
-  by_line InBlock ending d l c e body w behind heads made = make_right D (make_when D (below_no_place ending) heads made)
-  by_line InArm ending d l c e body w behind heads made = make_right D (make_left D (make_when D (below_no_place ending) heads made))
+  by_line InBlock ending d l c e body w behind heads made = make_right D (make_when D heads made)
+  by_line InArm ending d l c e body w behind heads made = make_right D (make_left D (make_when D heads made))
 
   next_stmt : (at : Place) → Rises D (Sbody at) → (ending : Ending) (d l c e : ℕ) (x : Stmt) (xs : List Stmt) (arms : List SwitchArm)
       → StmtsMade (symbol (Stmts at)) d l c e (x ∷ xs, arms) → (behind : List Token) → Made D (next_stmts at ending) d l c e (x ∷ xs, arms) (after_words (x ∷ xs, arms)) behind
@@ -182,7 +178,7 @@ module _ (D : (s : Symbol) → ℕ → ℕ → ℕ → ℕ → List Sighted → 
   next_made at rises ending d l c e ([], []) fits h = inl (refl, h)
   next_made InBlock rises ending d l c e ([], x ∷ xs) fits made = absurd (cc)
   next_made InArm rises ending d l c e ([], x ∷ xs) fits made = inr (λ behind.
-      make_right D (make_right D (make_gives D refl (make_when D (λ t. refl) (label_first x.label _ (arms_words xs) behind) (made behind)))))
+      make_right D (make_right D (make_gives D refl (make_when D (label_first x.label _ (arms_words xs) behind) (made behind)))))
   next_made at rises ending d l c e (x ∷ xs, arms) fits made = inr (λ behind. next_stmt at rises ending d l c e x xs arms made behind)
 
   after_made : (at : Place) (ending : Ending) (d l c e : ℕ) (body : Body) → NextMade at ending d l c e body → (behind : List Token)
@@ -268,7 +264,7 @@ module _ (D : (s : Symbol) → ℕ → ℕ → ℕ → ℕ → List Sighted → 
           subst (λ y. FitsPlace at y.1 × ((behind : List Token) → Made D (rule false (AfterReturn at)) d l c e y (return_words y) behind)) (sym (h ∙ same)) (
             fits,
             λ behind. make_gives D refl (make_some D (make_left D (make_gives D refl (make_both D
-                (make_when D (λ t. refl) (heads_on_line (expr_words x gap.Space) (map token_of (after_words body) ++ behind) (expr_begun x gap.Space))
+                (make_when D (heads_on_line (expr_words x gap.Space) (map token_of (after_words body) ++ behind) (expr_begun x gap.Space))
                 (whole_expr_again D B within d l c m x p gap.Space (map token_of (after_words body) ++ behind)).made)
                 (made behind))))),
           )

@@ -1,7 +1,7 @@
 -- Values that a grammar's productions build of tokens of a kind, without the runs of these tokens.
 use Rattle.std.proofs.Common.{◌≡◌, ℕ, zero, suc, Bool, true, ◌⊎◌, inl, inr, List, [], ◌∷◌, ◌++◌, Option, Some, None, subst}
 use Rattle.sw_grammar.specs.Grammar as g
-use Rattle.sw_grammar.specs.Grammar.{Part, Counted, Each, Then, Derives_by}
+use Rattle.sw_grammar.specs.Grammar.{Token, Part, Counted, Each, Then, Derives_by}
 
 -- each element of the list is so
 abbrev pub Every : {T : Type 0} → (T → Type 0) → List T → Type 0
@@ -28,11 +28,11 @@ abbrev pub ThenBuilt : {A B : Type 0} → Counting A → Counting B → (A → B
 ThenBuilt B C goes c c' x None = B c c' x
 ThenBuilt B C goes c c' x (Some y) = (e : ℕ) × B c e x × (goes x ≡ true) × C e c' y
 
-module _ (T V S : Type 0) (Sort : S → Type 0) (face : T → V) (rule : (s : S) → Part T V S Sort (Sort s)) (G : T → Type 0) where
+module _ (K V S : Type 0) (Sort : S → Type 0) (rule : (s : S) → Part K V S Sort (Sort s)) (G : (Token K V) → Type 0) where
   -- The part builds the value of tokens that are so, where a symbol builds what B says: as `Derives_by` without the
   -- tokens, each of which is kept at its mark alone.
-  abbrev pub Built_by : ((s : S) → ℕ → ℕ → Counting (Sort s)) → {A : Type 0} → Part T V S Sort A → ℕ → ℕ → ℕ → ℕ → A → Type 0
-  Built_by B (g.mark f) d l c c' x = (t : T) × G t × (f t ≡ true) × (x ≡ face t) × (c' ≡ c)
+  abbrev pub Built_by : ((s : S) → ℕ → ℕ → Counting (Sort s)) → {A : Type 0} → Part K V S Sort A → ℕ → ℕ → ℕ → ℕ → A → Type 0
+  Built_by B (g.mark f) d l c c' x = (t : Token K V) × G t × (f t.sight ≡ true) × (x ≡ t.face) × (c' ≡ c)
   Built_by B (g.sym s) d l c c' x = B s d l c c' x
   Built_by B (g.both a b) d l c c' x = (e : ℕ) × Built_by B a d l c e x.0 × Built_by B b d l e c' x.1
   Built_by B (g.either a b) d l c c' x = Built_by B a d l c c' x ⊎ Built_by B b d l c c' x
@@ -51,28 +51,28 @@ module _ (T V S : Type 0) (Sort : S → Type 0) (face : T → V) (rule : (s : S)
   -- ---- what tokens derive is built of them, where what holds of a run holds of its parts, and of a single token that it
   -- is so
 
-  module _ (Ok : List T → Type 0) (halves : (v w : List T) → Ok (v ++ w) → Ok v × Ok w) (one : (t : T) → Ok (t ∷ []) → G t) where
-    abbrev Kept : {A : Type 0} → Counted T A → Counting A → Type 0
-    Kept {A} D B = (c e : ℕ) (u : List T) (x : A) → Ok u → D c e u x → B c e x
+  module _ (Ok : List (Token K V) → Type 0) (halves : (v w : List (Token K V)) → Ok (v ++ w) → Ok v × Ok w) (one : (t : (Token K V)) → Ok (t ∷ []) → G t) where
+    abbrev Kept : {A : Type 0} → Counted (Token K V) A → Counting A → Type 0
+    Kept {A} D B = (c e : ℕ) (u : List (Token K V)) (x : A) → Ok u → D c e u x → B c e x
 
-    each_kept : {A : Type 0} (D : Counted T A) (B : Counting A) → Kept D B → (xs : List A) (c e : ℕ) (u : List T) → Ok u → Each D c e u xs → EachBuilt B c e xs
+    each_kept : {A : Type 0} (D : Counted (Token K V) A) (B : Counting A) → Kept D B → (xs : List A) (c e : ℕ) (u : List (Token K V)) → Ok u → Each D c e u xs → EachBuilt B c e xs
     each_kept D B k [] c e u all (eu, ec) = ec
     each_kept D B k (x ∷ xs) c e u all (v, w, m, eu, p, q) =
         let (av, aw) = halves v w (subst Ok eu all) in
         (m, k c m v x av p, each_kept D B k xs m e w aw q)
 
-    then_kept : {A C : Type 0} (D : Counted T A) (E : Counted T C) (B : Counting A) (F : Counting C) (goes : A → Bool) → Kept D B → Kept E F
-        → (c e : ℕ) (u : List T) (x : A) (y : Option C) → Ok u → Then D E goes c e u x y → ThenBuilt B F goes c e x y
+    then_kept : {A C : Type 0} (D : Counted (Token K V) A) (E : Counted (Token K V) C) (B : Counting A) (F : Counting C) (goes : A → Bool) → Kept D B → Kept E F
+        → (c e : ℕ) (u : List (Token K V)) (x : A) (y : Option C) → Ok u → Then D E goes c e u x y → ThenBuilt B F goes c e x y
     then_kept D E B F goes k m c e u x None all p = k c e u x all p
     then_kept D E B F goes k m c e u x (Some y) all (v, w, i, eu, p, is, q) =
         let (av, aw) = halves v w (subst Ok eu all) in
         (i, k c i v x av p, is, m i e w y aw q)
 
-    abbrev Dv : ((s : S) → ℕ → ℕ → Counted T (Sort s)) → {A : Type 0} → Part T V S Sort A → ℕ → ℕ → Counted T A
-    Dv D a d l c e u x = Derives_by T V S Sort face rule D a d l c e u x
+    abbrev Dv : ((s : S) → ℕ → ℕ → Counted (Token K V) (Sort s)) → {A : Type 0} → Part K V S Sort A → ℕ → ℕ → Counted (Token K V) A
+    Dv D a d l c e u x = Derives_by K V S Sort rule D a d l c e u x
 
-    pub built_by : (D : (s : S) → ℕ → ℕ → Counted T (Sort s)) (B : (s : S) → ℕ → ℕ → Counting (Sort s)) → ((s : S) (d l : ℕ) → Kept (D s d l) (B s d l))
-        → {A : Type 0} (a : Part T V S Sort A) (d l : ℕ) → Kept (Dv D a d l) (Built_by B a d l)
+    pub built_by : (D : (s : S) → ℕ → ℕ → Counted (Token K V) (Sort s)) (B : (s : S) → ℕ → ℕ → Counting (Sort s)) → ((s : S) (d l : ℕ) → Kept (D s d l) (B s d l))
+        → {A : Type 0} (a : Part K V S Sort A) (d l : ℕ) → Kept (Dv D a d l) (Built_by B a d l)
     built_by D B k (g.mark f) d l c e u x all (t, eu, is, ex, ec) = (t, one t (subst Ok eu all), is, ex, ec)
     built_by D B k (g.sym s) d l c e u x all p = k s d l c e u x all p
     built_by D B k (g.both a b) d l c e u x all (v, w, m, eu, p, q) =

@@ -13,6 +13,7 @@ use Rattle.sw_layout.specs.Words.{Word, token_of}
 use Rattle.sw_tree.specs.declared.decl.Modifier.{Modifier}
 use Rattle.sw_tree.specs.declared.decl.ModifierKind.{ModifierKind}
 use Rattle.sw_tree.specs.declared.decl.ModifierKind.TheVariants as modifier
+use Rattle.sw_syntax.specs.declared.class.Sight.{Sight}
 use Rattle.sw_syntax.specs.declared.class.Class.{Class}
 use Rattle.sw_syntax.specs.declared.class.Class.TheVariants as class
 use Rattle.sw_syntax.specs.Tokens.{class_of_name, class_in, is_next, touches_next, Sighted, Face, seen}
@@ -37,10 +38,10 @@ abbrev Tells : (Class → Bool) → (TokenKind → Text → Type 0) → Type 0
 Tells f Q = (kind : TokenKind) (token : Token) (behind : List Token) → f (class_in kind token behind) ≡ true → Q kind token.text
 
 -- what is told of the kind and the text of a good token, its face has, and they go together
-told : (f : Class → Bool) (Q : TokenKind → Text → Type 0) → Tells f Q → (t : Sighted) (x : Face) → IsGood t → f t.class ≡ true → x ≡ t.face → Q x.kind x.text × IsOfKind x.kind x.text
+told : (f : Class → Bool) (Q : TokenKind → Text → Type 0) → Tells f Q → (t : Sighted) (x : Face) → IsGood t → f t.sight.class ≡ true → x ≡ t.face → Q x.kind x.text × IsOfKind x.kind x.text
 told f Q tells t x (token, behind, e, fits) p same =
     let its : x ≡ (seen token behind).face = same ∙ ap (λ t. t.face) e in
-    subst (λ x. Q x.kind x.text × IsOfKind x.kind x.text) (sym its) (tells token.kind token behind (subst (λ t. f t.class ≡ true) e p), fits)
+    subst (λ x. Q x.kind x.text × IsOfKind x.kind x.text) (sym its) (tells token.kind token behind (subst (λ t. f t.sight.class ≡ true) e p), fits)
 
 -- ---- names that are told by their texts
 
@@ -105,14 +106,14 @@ getter_get class.GetBlock h = refl
 getter_get c h = absurd (cc)
 
 -- what is seen of `get` is one, and before `{` one before its block
-get_passes : (face : Face) (g : Gap) (behind : List Token) → is_get (placed face (seen (token_of (contextual (codes "get") g)) behind)) ≡ true
+get_passes : (face : Face) (g : Gap) (behind : List Token) → is_get (placed face (seen (token_of (contextual (codes "get") g)) behind)).sight ≡ true
 get_passes face g behind = go (is_next k.LeftBrace behind)
   where
     go : (b : Bool) → is_get_class (if b then class.GetBlock else class.Get) ≡ true
     go true = refl
     go false = refl
 
-getter_passes : (face : Face) (g : Gap) (behind : List Token) → is_next k.LeftBrace behind ≡ true → is_getter (placed face (seen (token_of (contextual (codes "get") g)) behind)) ≡ true
+getter_passes : (face : Face) (g : Gap) (behind : List Token) → is_next k.LeftBrace behind ≡ true → is_getter (placed face (seen (token_of (contextual (codes "get") g)) behind)).sight ≡ true
 getter_passes face g behind h = go (is_next k.LeftBrace behind) h
   where
     go : (b : Bool) → b ≡ true → is_get_block_class (if b then class.GetBlock else class.Get) ≡ true
@@ -139,7 +140,7 @@ modifier_tells k.Question token behind h = absurd (not_question is_modifier_clas
 modifier_tells k.Minus token behind h = absurd (not_minus is_modifier_class refl refl (touches_next behind) h)
 modifier_tells kind token behind h = absurd (cc)
 
-modifier_passes : (m : ModifierKind) (face : Face) (g : Gap) (behind : List Token) → is_modifier (placed face (seen (token_of (modifier_word m g)) behind)) ≡ true
+modifier_passes : (m : ModifierKind) (face : Face) (g : Gap) (behind : List Token) → is_modifier (placed face (seen (token_of (modifier_word m g)) behind)).sight ≡ true
 modifier_passes modifier.Public face g behind = refl
 modifier_passes modifier.Internal face g behind = refl
 modifier_passes modifier.Private face g behind = refl
@@ -186,8 +187,8 @@ modified_append (m ∷ ms) x v g = ap (λ l. modifier_word m.kind g ∷ l) (modi
 
 module _ (D : (s : Symbol) → ℕ → ℕ → ℕ → ℕ → List Sighted → Sort s → Type 0) (B : (s : Symbol) → ℕ → ℕ → ℕ → ℕ → Sort s → Type 0) where
   -- a name that is told by its text
-  make_contextual : (f : Sighted → Bool) (word : Text) (g : Gap) (behind : List Token) (d l c e : ℕ) (x : Face) → IsName word x.kind x.text × IsOfKind x.kind x.text
-      → f (placed x (seen (token_of (contextual word g)) behind)) ≡ true → e ≡ c → Made D (mark f) d l c e x (contextual word g ∷ []) behind
+  make_contextual : (f : Sight → Bool) (word : Text) (g : Gap) (behind : List Token) (d l c e : ℕ) (x : Face) → IsName word x.kind x.text × IsOfKind x.kind x.text
+      → f (placed x (seen (token_of (contextual word g)) behind)).sight ≡ true → e ≡ c → Made D (mark f) d l c e x (contextual word g ∷ []) behind
   make_contextual f word g behind d l c e x ((kind, text), fits) is same =
       make_mark D (contextual word g) x kind text (subst (λ text. IsOfKind k.Name text) text (subst (λ kind. IsOfKind kind x.text) kind fits)) is same
 
@@ -203,7 +204,7 @@ module _ (D : (s : Symbol) → ℕ → ℕ → ℕ → ℕ → List Sighted → 
   pub make_getter : (g : Gap) (behind : List Token) (d l c e : ℕ) (x : Face) → BuiltOf B (mark is_getter) d l c e x → is_next k.LeftBrace behind ≡ true
       → Made D (mark is_getter) d l c e x (contextual (codes "get") g ∷ []) behind
   make_getter g behind d l c e x (t, good, passed, ex, ec) next =
-      make_contextual is_getter (codes "get") g behind d l c e x (told is_get_class (IsName (codes "get")) get_tells t x good (getter_get t.class passed) ex) (getter_passes x g behind next) ec
+      make_contextual is_getter (codes "get") g behind d l c e x (told is_get_class (IsName (codes "get")) get_tells t x good (getter_get t.sight.class passed) ex) (getter_passes x g behind next) ec
 
   make_modifier : (g : Gap) (behind : List Token) (d l c e : ℕ) (x : Face) → BuiltOf B (mark is_modifier) d l c e x
       → Made D (mark is_modifier) d l c e x (modifier_word (modifier_of x).kind g ∷ []) behind

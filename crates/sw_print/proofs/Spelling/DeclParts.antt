@@ -1,19 +1,17 @@
 -- Parts of which declarations are made: absent ones, marks before them, lists with commas, brackets, whole types and expressions.
-use Rattle.std.proofs.Common.{◌≡◌, ℕ, zero, suc, Bool, true, false, List, [], ◌∷◌, ◌++◌, map, Some, None, refl, sym, ap, ◌∙◌, subst}
+use Rattle.std.proofs.Common.{◌≡◌, ℕ, zero, suc, true, false, List, [], ◌∷◌, ◌++◌, map, Some, None, refl, sym, ap, subst}
 use Rattle.sw_lex.specs.declared.token.TokenKind.{TokenKind}
 use Rattle.sw_lex.specs.declared.token.TokenKind.TheVariants as k
 use Rattle.sw_lex.specs.declared.token.Token.{Token}
-use Rattle.sw_grammar.specs.Grammar.{Heads, sym as symbol, maybe, many, when, limited}
+use Rattle.sw_grammar.specs.Grammar.{sym as symbol, maybe, many, limited}
 use Rattle.sw_layout.specs.declared.gap.Gap.{Gap}
 use Rattle.sw_layout.specs.declared.gap.Gap.TheVariants as gap
 use Rattle.sw_layout.specs.Words.{Word, plain, token_of}
-use Rattle.sw_places.specs.Places.{unplaced}
 use Rattle.sw_syntax.specs.Tokens.{same_kind, Sighted, Face, seen}
 use Rattle.sw_syntax.specs.Symbols.{Symbol, Sort, Type', Expr}
 use Rattle.sw_syntax.specs.Parts.{P, tok, place, name, present, behind as after, some, any, in_parens, in_braces, whole_expr, whole_type}
 use Rattle.sw_syntax.specs.Grammar.{annotation, initial}
 use Rattle.sw_syntax.specs.Tests.{is}
-use Rattle.sw_print.specs.Seen.{seen_in}
 use Rattle.sw_print.specs.Expressions.{W, name_word, others, listed, in_parens as parens_words, perhaps, if_there, type_words, expr_words}
 use Rattle.sw_print.specs.Statements.{annotation_words, initial_words, in_braces as braces_words}
 use Rattle.sw_print.specs.Declarations.{at_place}
@@ -23,18 +21,9 @@ use Rattle.sw_print.proofs.Spelling.Marks.{BuiltOf, make_tok, make_place, make_n
 use Rattle.sw_print.proofs.Spelling.Texts.{PartAgain}
 use Rattle.sw_print.proofs.Spelling.TypeWords.{TypeAgain}
 
--- the first of a run that is alike to another passes the tests that the other's first passes
-pub heads_alike : (f : Sighted → Bool) → ((t : Sighted) → f t ≡ f (unplaced t)) → (u v : List Sighted) → map unplaced u ≡ map unplaced v → Heads f v → Heads f u
-heads_alike f blind [] v same p = tt
-heads_alike f blind (t ∷ u) [] same p = absurd (cc)
-heads_alike f blind (t ∷ u) (s ∷ v) same p = blind t ∙ ap f (first_same _ _ _ _ same) ∙ sym (blind s) ∙ p
-  where
-    first_same : (a b : Sighted) (u v : List Sighted) → (a ∷ u) ≡ (b ∷ v) → a ≡ b
-    first_same a b u v h = cc
-
 -- the kind has one spelling, and what is seen of its word, behind this gap, is of the kind
 abbrev pub IsMark : TokenKind → Gap → Type 0
-IsMark kind g = (is_free kind ≡ false) × ((x : Face) (behind : List Token) → is kind (placed x (seen (token_of (plain kind g)) behind)) ≡ true)
+IsMark kind g = (is_free kind ≡ false) × ((x : Face) (behind : List Token) → is kind (placed x (seen (token_of (plain kind g)) behind)).sight ≡ true)
 
 -- any tokens may stand behind
 abbrev pub Any : List Token → Type 0
@@ -51,15 +40,6 @@ module _ (D : (s : Symbol) → ℕ → ℕ → ℕ → ℕ → List Sighted → 
 
   pub make_limited : {A : Type 0} {a : P A} {d l c e m : ℕ} {x : A} {w : List Word} {behind : List Token} → e ≡ c → Made D a d l l m x w behind → Made D (limited a) d l c e x w behind
   make_limited {m = m} h p = record { good = p.good; run = p.run; alike = p.alike; derives = (m, p.derives, h) }
-
-  pub make_when : {A : Type 0} {f : Sighted → Bool} {a : P A} {d l c e : ℕ} {x : A} {w : List Word} {behind : List Token} → ((t : Sighted) → f t ≡ f (unplaced t)) → Heads f (seen_in w behind)
-      → Made D a d l c e x w behind → Made D (when f a) d l c e x w behind
-  make_when {f = f} {w = w} {behind = behind} blind h p = record {
-    good = p.good;
-    run = p.run;
-    alike = p.alike;
-    derives = (heads_alike f blind p.run (seen_in w behind) p.alike h, p.derives);
-  }
 
   -- ---- parts that may be absent, and marks before parts
 

@@ -37,22 +37,22 @@ else_in k.Question token behind h = absurd (either (λ x. is_else_class x ≡ tr
 else_in k.Minus token behind h = absurd (either (λ x. is_else_class x ≡ true → ⊥) (touches_next behind) (class.Is k.Minus) class.LooseMinus (λ e. cc) (λ e. cc) h)
 else_in kind token behind h = absurd (cc)
 
-else_kind : (t : Sighted) → IsGood t → is_else_class t.class ≡ true → t.face.kind ≡ k.Else
+else_kind : (t : Sighted) → IsGood t → is_else_class t.sight.class ≡ true → t.face.kind ≡ k.Else
 else_kind = face_kind (λ x. is_else_class x ≡ true) k.Else else_in
 
 else_if_else : (x : Class) → is_else_if_class x ≡ true → is_else_class x ≡ true
 else_if_else class.ElseIf h = refl
 else_if_else x h = absurd (cc)
 
-any_passes : (face : Face) (behind : List Token) → is_any_else (placed face (seen (token_of (plain k.Else gap.Space)) behind)) ≡ true
+any_passes : (face : Face) (behind : List Token) → is_any_else (placed face (seen (token_of (plain k.Else gap.Space)) behind)).sight ≡ true
 unfolding same_kind
 any_passes face behind = either (λ x. is_else_class x ≡ true) (is_next k.If behind) class.ElseIf (class.Is k.Else) refl refl
 
-else_passes : (face : Face) (behind : List Token) → is_next k.If behind ≡ false → is_else (placed face (seen (token_of (plain k.Else gap.Space)) behind)) ≡ true
+else_passes : (face : Face) (behind : List Token) → is_next k.If behind ≡ false → is_else (placed face (seen (token_of (plain k.Else gap.Space)) behind)).sight ≡ true
 unfolding same_kind
-else_passes face behind h = subst (λ b. is k.Else (record { class = if b then class.ElseIf else class.Is k.Else; is_first = false; before_colon = false; face = face }) ≡ true) (sym h) refl
+else_passes face behind h = subst (λ b. is k.Else (record { class = if b then class.ElseIf else class.Is k.Else; is_first = false; before_colon = false }) ≡ true) (sym h) refl
 
-else_if_passes : (face : Face) (behind : List Token) → is_next k.If behind ≡ true → is_else_if (placed face (seen (token_of (plain k.Else gap.Space)) behind)) ≡ true
+else_if_passes : (face : Face) (behind : List Token) → is_next k.If behind ≡ true → is_else_if (placed face (seen (token_of (plain k.Else gap.Space)) behind)).sight ≡ true
 else_if_passes face behind h = subst (λ b. is_else_if_class (if b then class.ElseIf else class.Is k.Else) ≡ true) (sym h) refl
 
 module _ (D : (s : Symbol) → ℕ → ℕ → ℕ → ℕ → List Sighted → Sort s → Type 0) (B : (s : Symbol) → ℕ → ℕ → ℕ → ℕ → Sort s → Type 0) where
@@ -68,4 +68,4 @@ module _ (D : (s : Symbol) → ℕ → ℕ → ℕ → ℕ → List Sighted → 
   pub make_else_if : (behind : List Token) → is_next k.If behind ≡ true → (d l c e : ℕ) (x : Face) → BuiltOf B (mark is_else_if) d l c e x
       → Made D (mark is_else_if) d l c e x (plain k.Else gap.Space ∷ []) behind
   make_else_if behind h d l c e x (t, good, passed, ex, ec) =
-      make_plain D B is_else_if k.Else gap.Space behind d l c e x (was_mark k.Else t x good (else_kind t good (else_if_else t.class passed)) ex) refl (else_if_passes x behind h) ec
+      make_plain D B is_else_if k.Else gap.Space behind d l c e x (was_mark k.Else t x good (else_kind t good (else_if_else t.sight.class passed)) ex) refl (else_if_passes x behind h) ec

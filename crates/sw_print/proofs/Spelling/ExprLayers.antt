@@ -6,7 +6,7 @@ use Rattle.sw_lex.specs.Bytes.{Text}
 use Rattle.sw_lex.specs.declared.token.TokenKind.TheVariants as k
 use Rattle.sw_layout.specs.declared.gap.Gap.{Gap}
 use Rattle.sw_layout.specs.declared.gap.Gap.TheVariants as gap
-use Rattle.sw_layout.specs.Words.{plain, nowhere}
+use Rattle.sw_layout.specs.Words.{plain}
 use Rattle.sw_tree.specs.declared.expr.Name.{Name}
 use Rattle.sw_tree.specs.declared.expr.TryForm.{TryForm}
 use Rattle.sw_tree.specs.declared.expr.PrefixOperator.{PrefixOperator}
@@ -77,7 +77,7 @@ module _ (A A' A'' A3 : Type 0) (step : Expr-F A A' A'' A3 → A) (step' : Liter
 
 -- a literal is written alike wherever it stands
 pub words_literal : (place : Span) (x : Literal) (g : Gap) → expr_words (e.Literal place x) g ≡ literal_words x g
-words_literal place x g = at (folded_literal _ _ _ _ _ _ _ _ place x) g ∙ sym (at (folded_literal _ _ _ _ _ _ _ _ nowhere x) g)
+words_literal place x g = at (folded_literal _ _ _ _ _ _ _ _ place x) g
 
 abbrev pub piece_words : StringPiece → W × Text
 piece_words x = (expr_words x.value, x.text)

@@ -209,8 +209,8 @@ pub dot_append : (g : Gap) (v w : List Word) → Begun g v → begins_with_dot (
 dot_append g [] w h = elim h [ ]
 dot_append g (x ∷ v) w h = refl
 
-no_dot : (w : Word) (words : List Word) (behind : List Token) → begins_with_dot (w ∷ words) ≡ false → is k.Dot (seen (token_of w) behind) ≡ false
-no_dot w words behind h = decided (is k.Dot (seen (token_of w) behind)) (λ e. clash _ (dot_begins w words (class_kind w.kind (token_of w) behind k.Dot e)) h)
+no_dot : (w : Word) (words : List Word) (behind : List Token) → begins_with_dot (w ∷ words) ≡ false → is k.Dot (seen (token_of w) behind).sight ≡ false
+no_dot w words behind h = decided (is k.Dot (seen (token_of w) behind).sight) (λ e. clash _ (dot_begins w words (class_kind w.kind (token_of w) behind k.Dot e)) h)
 
 loose_minus : (x : Class) → is_loose_minus_class x ≡ true → is_minus_class x ≡ true
 loose_minus class.LooseMinus h = refl
@@ -231,10 +231,10 @@ minus_joined w words behind (inr h) e =
     subst (λ kind. is_loose_minus_class (class_in kind (token_of w) (map token_of words ++ behind)) ≡ true → ⊥) (sym e) (not_loose (touches_next (map token_of words ++ behind)) (joined_touches words behind h))
 
 no_loose : (w : Word) (words : List Word) (behind : List Token) → IsGoodWord w → (is_minus w.kind ≡ false) ⊎ NextJoined words
-    → is_loose_minus_class (seen (token_of w) (map token_of words ++ behind)).class ≡ false
+    → is_loose_minus_class (seen (token_of w) (map token_of words ++ behind)).sight.class ≡ false
 no_loose w words behind good h =
     let t : Sighted = seen (token_of w) (map token_of words ++ behind) in
-    decided (is_loose_minus_class t.class) (λ e. minus_joined w words behind h (minus_kind t (token_of w, map token_of words ++ behind, refl, good) (loose_minus t.class e)) e)
+    decided (is_loose_minus_class t.sight.class) (λ e. minus_joined w words behind h (minus_kind t (token_of w, map token_of words ++ behind, refl, good) (loose_minus t.sight.class e)) e)
 
 all_three : (a b c : Bool) → a ≡ true → b ≡ false → c ≡ false → (a && not (b || c)) ≡ true
 all_three true false false p q r = refl
@@ -242,7 +242,7 @@ all_three true false true p q r = cc
 all_three true true c p q r = cc
 all_three false b c p q r = cc
 
-line_first : (w : Word) (behind : List Token) → w.gap ≡ gap.Line → is_first (seen (token_of w) behind) ≡ true
+line_first : (w : Word) (behind : List Token) → w.gap ≡ gap.Line → is_first (seen (token_of w) behind).sight ≡ true
 line_first w behind h = ap first_gap h
 
 -- words that begin on a line of their own, with no `.`, may begin a statement behind one with any ending

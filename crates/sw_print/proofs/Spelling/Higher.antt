@@ -1,55 +1,55 @@
 -- Derivations of whatever heights: a part that is derived by some of them is derived by those of one height.
 use Rattle.std.proofs.Common.{◌≡◌, ◌≤◌, ℕ, zero, suc, ◌+◌, Bool, inl, inr, List, [], ◌∷◌, Option, Some, None, subst, arith}
 use Rattle.sw_grammar.specs.Grammar as g
-use Rattle.sw_grammar.specs.Grammar.{Part, Counted, Each, Then, Derives_by, Derives}
+use Rattle.sw_grammar.specs.Grammar.{Token, Part, Counted, Each, Then, Derives_by, Derives}
 use Rattle.sw_grammar.proofs.Grow.{grow_part}
 
-module _ (T V S : Type 0) (Sort : S → Type 0) (face : T → V) (rule : (s : S) → Part T V S Sort (Sort s)) where
+module _ (K V S : Type 0) (Sort : S → Type 0) (rule : (s : S) → Part K V S Sort (Sort s)) where
   -- by a derivation of some height
-  abbrev pub Derived : (s : S) → ℕ → ℕ → ℕ → ℕ → List T → Sort s → Type 0
-  Derived s d l c e u x = (n : ℕ) × Derives T V S Sort face rule n s d l c e u x
+  abbrev pub Derived : (s : S) → ℕ → ℕ → ℕ → ℕ → List (Token K V) → Sort s → Type 0
+  Derived s d l c e u x = (n : ℕ) × Derives K V S Sort rule n s d l c e u x
 
-  abbrev By : ℕ → {A : Type 0} → Part T V S Sort A → ℕ → ℕ → Counted T A
-  By n a d l c e u x = Derives_by T V S Sort face rule (Derives T V S Sort face rule n) a d l c e u x
+  abbrev By : ℕ → {A : Type 0} → Part K V S Sort A → ℕ → ℕ → Counted (Token K V) A
+  By n a d l c e u x = Derives_by K V S Sort rule (Derives K V S Sort rule n) a d l c e u x
 
-  abbrev BySome : {A : Type 0} → Part T V S Sort A → ℕ → ℕ → Counted T A
-  BySome a d l c e u x = Derives_by T V S Sort face rule Derived a d l c e u x
+  abbrev BySome : {A : Type 0} → Part K V S Sort A → ℕ → ℕ → Counted (Token K V) A
+  BySome a d l c e u x = Derives_by K V S Sort rule Derived a d l c e u x
 
-  up_part : (n m : ℕ) → n ≤ m → {A : Type 0} (a : Part T V S Sort A) (d l c e : ℕ) (u : List T) (x : A) → By n a d l c e u x → By m a d l c e u x
+  up_part : (n m : ℕ) → n ≤ m → {A : Type 0} (a : Part K V S Sort A) (d l c e : ℕ) (u : List (Token K V)) (x : A) → By n a d l c e u x → By m a d l c e u x
   up_part n m le a d l c e u x p =
-      let (e', same, q) = grow_part T V S Sort face rule n m le a d l c e u x p d l c (omega arith) (omega arith) (omega arith) in
+      let (e', same, q) = grow_part K V S Sort rule n m le a d l c e u x p d l c (omega arith) (omega arith) (omega arith) in
       let here : e' ≡ e = omega (arith, same) in
       subst (λ e. By m a d l c e u x) here q
 
-  abbrev One : {A : Type 0} → Counted T A → (ℕ → Counted T A) → Type 0
-  One {A} D E = (c e : ℕ) (u : List T) (x : A) → D c e u x → (n : ℕ) × E n c e u x
+  abbrev One : {A : Type 0} → Counted (Token K V) A → (ℕ → Counted (Token K V) A) → Type 0
+  One {A} D E = (c e : ℕ) (u : List (Token K V)) (x : A) → D c e u x → (n : ℕ) × E n c e u x
 
-  abbrev Rises : {A : Type 0} → (ℕ → Counted T A) → Type 0
-  Rises {A} E = (n m : ℕ) → n ≤ m → (c e : ℕ) (u : List T) (x : A) → E n c e u x → E m c e u x
+  abbrev Rises : {A : Type 0} → (ℕ → Counted (Token K V) A) → Type 0
+  Rises {A} E = (n m : ℕ) → n ≤ m → (c e : ℕ) (u : List (Token K V)) (x : A) → E n c e u x → E m c e u x
 
-  each_rises : {A : Type 0} (E : ℕ → Counted T A) → Rises E → (n m : ℕ) → n ≤ m → (xs : List A) (c e : ℕ) (u : List T) → Each (E n) c e u xs → Each (E m) c e u xs
+  each_rises : {A : Type 0} (E : ℕ → Counted (Token K V) A) → Rises E → (n m : ℕ) → n ≤ m → (xs : List A) (c e : ℕ) (u : List (Token K V)) → Each (E n) c e u xs → Each (E m) c e u xs
   each_rises E r n m le [] c e u p = p
   each_rises E r n m le (x ∷ xs) c e u (v, w, i, eu, p, q) = (v, w, i, eu, r n m le c i v x p, each_rises E r n m le xs i e w q)
 
-  one_each : {A : Type 0} (D : Counted T A) (E : ℕ → Counted T A) → Rises E → One D E → (xs : List A) (c e : ℕ) (u : List T) → Each D c e u xs → (n : ℕ) × Each (E n) c e u xs
+  one_each : {A : Type 0} (D : Counted (Token K V) A) (E : ℕ → Counted (Token K V) A) → Rises E → One D E → (xs : List A) (c e : ℕ) (u : List (Token K V)) → Each D c e u xs → (n : ℕ) × Each (E n) c e u xs
   one_each D E r k [] c e u p = (zero, p)
   one_each D E r k (x ∷ xs) c e u (v, w, i, eu, p, q) =
       let (n, p') = k c i v x p in
       let (m, q') = one_each D E r k xs i e w q in
       (n + m, (v, w, i, eu, r n (n + m) (omega arith) c i v x p', each_rises E r m (n + m) (omega arith) xs i e w q'))
 
-  one_then : {A C : Type 0} (D : Counted T A) (E : ℕ → Counted T A) (F : Counted T C) (G : ℕ → Counted T C) (goes : A → Bool) → Rises E → Rises G → One D E → One F G
-      → (c e : ℕ) (u : List T) (x : A) (y : Option C) → Then D F goes c e u x y → (n : ℕ) × Then (E n) (G n) goes c e u x y
+  one_then : {A C : Type 0} (D : Counted (Token K V) A) (E : ℕ → Counted (Token K V) A) (F : Counted (Token K V) C) (G : ℕ → Counted (Token K V) C) (goes : A → Bool) → Rises E → Rises G → One D E → One F G
+      → (c e : ℕ) (u : List (Token K V)) (x : A) (y : Option C) → Then D F goes c e u x y → (n : ℕ) × Then (E n) (G n) goes c e u x y
   one_then D E F G goes r s k j c e u x None p = k c e u x p
   one_then D E F G goes r s k j c e u x (Some y) (v, w, i, eu, p, is, q) =
       let (n, p') = k c i v x p in
       let (m, q') = j i e w y q in
       (n + m, (v, w, i, eu, r n (n + m) (omega arith) c i v x p', is, s m (n + m) (omega arith) i e w y q'))
 
-  rises : {A : Type 0} (a : Part T V S Sort A) (d l : ℕ) → Rises (λ n. By n a d l)
+  rises : {A : Type 0} (a : Part K V S Sort A) (d l : ℕ) → Rises (λ n. By n a d l)
   rises a d l n m le c e u x p = up_part n m le a d l c e u x p
 
-  gathered : {A : Type 0} (a : Part T V S Sort A) (d l : ℕ) → One (BySome a d l) (λ n. By n a d l)
+  gathered : {A : Type 0} (a : Part K V S Sort A) (d l : ℕ) → One (BySome a d l) (λ n. By n a d l)
   gathered (g.mark f) d l c e u x p = (zero, p)
   gathered (g.sym s) d l c e u x p = p
   gathered (g.both a b) d l c e u x (v, w, i, eu, p, q) =
@@ -71,5 +71,5 @@ module _ (T V S : Type 0) (Sort : S → Type 0) (face : T → V) (rule : (s : S)
   gathered (g.gives f a) d l c e u y (x, p, h) = let (n, q) = gathered a d l c e u x p in (n, (x, q, h))
 
   -- a text of a symbol's production is one of the symbol
-  pub derived : (s : S) (d l c e : ℕ) (u : List T) (x : Sort s) → BySome (rule s) d l c e u x → Derived s d l c e u x
+  pub derived : (s : S) (d l c e : ℕ) (u : List (Token K V)) (x : Sort s) → BySome (rule s) d l c e u x → Derived s d l c e u x
   derived s d l c e u x p = let (n, q) = gathered (rule s) d l c e u x p in (suc n, q)

@@ -30,7 +30,8 @@ use Rattle.sw_print.specs.Statements.{binding_word, block_words}
 use Rattle.sw_print.specs.Declarations.{modifier_word, modified, signature_words, member_words, item_words, requirement_words, decl_words, decls_words}
 use Rattle.sw_print.proofs.Spelling.Making.{Made, make_both, make_gives, make_right, make_none, make_some, reword}
 use Rattle.sw_print.proofs.Spelling.Marks.{BuiltOf}
-use Rattle.sw_print.proofs.Spelling.DeclParts.{Any, Written, Stands, make_when}
+use Rattle.sw_print.proofs.Spelling.DeclParts.{Any, Written, Stands}
+use Rattle.sw_print.proofs.Spelling.Lines.{make_when}
 use Rattle.sw_print.proofs.Spelling.Items.{listed_words, lines_of, ListAgain}
 
 -- ---- the first word of an item
@@ -165,12 +166,12 @@ module _ (D : (s : Symbol) → ℕ → ℕ → ℕ → ℕ → List Sighted → 
       rest_again d_ l_ c e ys (Some xs, inl ((semicolon, zs), (m_, (t, good, passed, ex, ec), (Some us, q, same)), its), h) behind ok =
           let (filled, made) = again d_ l_ m_ e us q gap.Line behind in
           make_gives D (h ∙ its ∙ same) (reword D (ap (lines_of l) (h ∙ its ∙ same) ∙ items_lines l us)
-          (make_some D (make_right D (make_when D B (λ t. refl) (heads_first (items_words l us gap.Line) behind (first_of_items l us filled))
+          (make_some D (make_right D (make_when D (heads_first (items_words l us gap.Line) behind (first_of_items l us filled))
           (subst (λ m. Made D (symbol (Some' l)) d_ l_ m e us (items_words l us gap.Line) behind) ec made)))))
       rest_again d_ l_ c e ys (Some xs, inr p, h) behind ok =
           let (filled, made) = again d_ l_ c e xs p gap.Line behind in
           make_gives D h (reword D (ap (lines_of l) h ∙ items_lines l xs)
-          (make_some D (make_right D (make_when D B (λ t. refl) (heads_first (items_words l xs gap.Line) behind (first_of_items l xs filled)) made))))
+          (make_some D (make_right D (make_when D (heads_first (items_words l xs gap.Line) behind (first_of_items l xs filled)) made))))
 
   -- the declarations of a file
   pub decls_made : SomeAgain Decls → Stands D B Any (list_of Decls) decls_words

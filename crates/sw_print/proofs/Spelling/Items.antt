@@ -11,6 +11,7 @@ use Rattle.sw_tree.specs.declared.decl.Decl.{Decl}
 use Rattle.sw_tree.specs.declared.decl.Decl.TheVariants as d
 use Rattle.sw_tree.specs.declared.decl.Heading.{Heading}
 use Rattle.sw_tree.specs.declared.decl.Modifier.{Modifier}
+use Rattle.sw_syntax.specs.declared.class.Sight.{Sight}
 use Rattle.sw_syntax.specs.Tokens.{same_kind, Sighted, Face}
 use Rattle.sw_syntax.specs.Symbols.{Listed, Decls, Members, Items, Requirements, Symbol, Sort, Case, Item, Type', ItemTree}
 use Rattle.sw_syntax.specs.Parts.{◌·◌, tok, name, behind as after, some, in_braces}
@@ -75,11 +76,11 @@ module _ (D : (s : Symbol) → ℕ → ℕ → ℕ → ℕ → List Sighted → 
   ListAgain l = Stands D B Any (list_of l) (lines_of l)
 
   -- what is written for the mark that tells the kind of a declared type spells it
-  abbrev KindMade : (Sighted → Bool) → (Gap → Word) → Type 0
+  abbrev KindMade : (Sight → Bool) → (Gap → Word) → Type 0
   KindMade f w = (d l c e : ℕ) (x : Face) → BuiltOf B (mark f) d l c e x → (g : Gap) (behind : List Token) → Made D (mark f) d l c e x (w g ∷ []) behind
 
   -- kind name conf? { (item sep)* }, behind modifiers
-  nominal_made : (f : Sighted → Bool) (w : Gap → Word) → KindMade f w → (l : Listed) → ListAgain l → (make : Heading → List (ItemTree l) → Decl)
+  nominal_made : (f : Sight → Bool) (w : Gap → Word) → KindMade f w → (l : Listed) → ListAgain l → (make : Heading → List (ItemTree l) → Decl)
       → ((x : Heading) (xs : List (ItemTree l)) (g : Gap) → decl_words (make x xs) g ≡ nominal_words w x (map (listed_words l) xs) g)
       → ModifiedAgain D B (gives (λ x modifiers. make (x.0 modifiers) x.1) (after (mark f) (heading · in_braces (list_of l)))) decl_words
   nominal_made f w kind l lists make its d_ l_ c e y (x, ((face, z), (m, p, (m2, q, r)), same), h) behind =

@@ -60,10 +60,10 @@ class_kind kind token behind = λ o e. same_kinds _ o e
 
 -- the face of a token whose class is so has this kind
 pub face_kind : (P : Class → Type 0) (kind : TokenKind) → ((its : TokenKind) (token : Token) (behind : List Token) → P (class_in its token behind) → its ≡ kind)
-    → (t : Sighted) → IsGood t → P t.class → t.face.kind ≡ kind
-face_kind P kind f t (token, behind, e, fits) p = ap (λ t. t.face.kind) e ∙ f token.kind token behind (subst (λ t. P t.class) e p)
+    → (t : Sighted) → IsGood t → P t.sight.class → t.face.kind ≡ kind
+face_kind P kind f t (token, behind, e, fits) p = ap (λ t. t.face.kind) e ∙ f token.kind token behind (subst (λ t. P t.sight.class) e p)
 
-pub is_kind : (kind : TokenKind) (t : Sighted) → IsGood t → is kind t ≡ true → t.face.kind ≡ kind
+pub is_kind : (kind : TokenKind) (t : Sighted) → IsGood t → is kind t.sight ≡ true → t.face.kind ≡ kind
 is_kind kind = face_kind (λ x. is_of kind x ≡ true) kind (λ its token behind p. class_kind its token behind kind p)
 
 name_kind_in : (kind : TokenKind) (token : Token) (behind : List Token) → is_name_class (class_in kind token behind) ≡ true → kind ≡ k.Name
@@ -76,7 +76,7 @@ name_kind_in k.Question token behind h = absurd (either (λ x. is_name_class x �
 name_kind_in k.Minus token behind h = absurd (either (λ x. is_name_class x ≡ true → ⊥) (touches_next behind) (class.Is k.Minus) class.LooseMinus (λ e. cc) (λ e. cc) h)
 name_kind_in kind token behind h = absurd (cc)
 
-pub name_kind : (t : Sighted) → IsGood t → is_name t ≡ true → t.face.kind ≡ k.Name
+pub name_kind : (t : Sighted) → IsGood t → is_name t.sight ≡ true → t.face.kind ≡ k.Name
 name_kind = face_kind (λ x. is_name_class x ≡ true) k.Name name_kind_in
 
 -- a class that only what is seen of this kind has
@@ -141,19 +141,19 @@ minus k.Question token behind h = absurd (either (λ x. is_minus_class x ≡ tru
     (either (λ x. is_minus_class x ≡ true → ⊥) token.after_space class.SpacedQuestion (class.Is k.Question) (λ e. cc) (λ e. cc)) h)
 minus kind token behind h = absurd (cc)
 
-pub touching_question_kind : (t : Sighted) → IsGood t → is_touching_question_class t.class ≡ true → t.face.kind ≡ k.Question
+pub touching_question_kind : (t : Sighted) → IsGood t → is_touching_question_class t.sight.class ≡ true → t.face.kind ≡ k.Question
 touching_question_kind = face_kind (λ x. is_touching_question_class x ≡ true) k.Question question_touching
 
-pub spaced_question_kind : (t : Sighted) → IsGood t → is_spaced_question_class t.class ≡ true → t.face.kind ≡ k.Question
+pub spaced_question_kind : (t : Sighted) → IsGood t → is_spaced_question_class t.sight.class ≡ true → t.face.kind ≡ k.Question
 spaced_question_kind = face_kind (λ x. is_spaced_question_class x ≡ true) k.Question question_spaced
 
-pub touching_bang_kind : (t : Sighted) → IsGood t → is_touching_bang_class t.class ≡ true → t.face.kind ≡ k.Bang
+pub touching_bang_kind : (t : Sighted) → IsGood t → is_touching_bang_class t.sight.class ≡ true → t.face.kind ≡ k.Bang
 touching_bang_kind = face_kind (λ x. is_touching_bang_class x ≡ true) k.Bang bang_touching
 
-pub bang_kind : (t : Sighted) → IsGood t → is_bang_class t.class ≡ true → t.face.kind ≡ k.Bang
+pub bang_kind : (t : Sighted) → IsGood t → is_bang_class t.sight.class ≡ true → t.face.kind ≡ k.Bang
 bang_kind = face_kind (λ x. is_bang_class x ≡ true) k.Bang bang
 
-pub minus_kind : (t : Sighted) → IsGood t → is_minus_class t.class ≡ true → t.face.kind ≡ k.Minus
+pub minus_kind : (t : Sighted) → IsGood t → is_minus_class t.sight.class ≡ true → t.face.kind ≡ k.Minus
 minus_kind = face_kind (λ x. is_minus_class x ≡ true) k.Minus minus
 
 -- ---- reserved words
@@ -168,8 +168,8 @@ reserved_kind_in k.Question token behind h = absurd (either (λ x. is_reserved_c
 reserved_kind_in k.Minus token behind h = absurd (either (λ x. is_reserved_class x ≡ true → ⊥) (touches_next behind) (class.Is k.Minus) class.LooseMinus (λ e. cc) (λ e. cc) h)
 reserved_kind_in kind token behind h = h
 
-pub reserved_kind : (t : Sighted) → IsGood t → is_reserved_class t.class ≡ true → is_reserved_kind t.face.kind ≡ true
-reserved_kind t (token, behind, e, fits) p = ap (λ t. is_reserved_kind t.face.kind) e ∙ reserved_kind_in token.kind token behind (subst (λ t. is_reserved_class t.class ≡ true) e p)
+pub reserved_kind : (t : Sighted) → IsGood t → is_reserved_class t.sight.class ≡ true → is_reserved_kind t.face.kind ≡ true
+reserved_kind t (token, behind, e, fits) p = ap (λ t. is_reserved_kind t.face.kind) e ∙ reserved_kind_in token.kind token behind (subst (λ t. is_reserved_class t.sight.class ≡ true) e p)
 
 -- what is seen of a reserved word is one
 pub reserved_class : (kind : TokenKind) (token : Token) (behind : List Token) → is_reserved_kind kind ≡ true → is_reserved_class (class_in kind token behind) ≡ true

@@ -1,5 +1,5 @@
 -- Words that are made for lists, brackets, parts with a count of their own, and parts whose first token passes a test.
-use Rattle.std.proofs.Common.{◌≡◌, ℕ, zero, suc, Bool, true, false, List, [], ◌∷◌, ◌++◌, map, Some, None, refl, sym, ap, ◌∙◌}
+use Rattle.std.proofs.Common.{◌≡◌, ℕ, zero, suc, Bool, true, false, List, [], ◌∷◌, ◌++◌, map, Some, None, refl, ap, ◌∙◌}
 use Rattle.sw_lex.specs.declared.token.TokenKind.TheVariants as k
 use Rattle.sw_lex.specs.declared.token.Token.{Token}
 use Rattle.sw_grammar.specs.Grammar.{Heads, sym as symbol, many, maybe, then_if, when, limited}
@@ -7,6 +7,7 @@ use Rattle.sw_layout.specs.declared.gap.Gap.{Gap}
 use Rattle.sw_layout.specs.declared.gap.Gap.TheVariants as gap
 use Rattle.sw_layout.specs.Words.{Word, plain, token_of}
 use Rattle.sw_places.specs.Places.{unplaced}
+use Rattle.sw_syntax.specs.declared.class.Sight.{Sight}
 use Rattle.sw_syntax.specs.Tokens.{same_kind, Sighted}
 use Rattle.sw_syntax.specs.Symbols.{Symbol, Sort, Expr, Type'}
 use Rattle.sw_syntax.specs.Parts.{P, tok, behind as behind_mark, some, any, in_parens as parens_of, in_braces as braces_of, whole_expr, whole_type}
@@ -19,27 +20,23 @@ use Rattle.sw_print.proofs.Spelling.Marks.{BuiltOf, make_tok}
 use Rattle.sw_print.proofs.Spelling.Texts.{spelt, PartAgain}
 use Rattle.sw_print.proofs.Spelling.TypeWords.{TypeAgain}
 
--- a test that does not look at a token's place
-abbrev pub NoPlace : (Sighted → Bool) → Type 0
-NoPlace f = (t : Sighted) → f t ≡ f (unplaced t)
-
 first_same : {A : Type 0} (a b : A) (u v : List A) → (a ∷ u) ≡ (b ∷ v) → a ≡ b
 first_same a b u v h = cc
 
 -- of runs that are alike but for places, the first token of one passes where that of the other does
-pub heads_alike : (f : Sighted → Bool) → NoPlace f → (u v : List Sighted) → map unplaced u ≡ map unplaced v → Heads f v → Heads f u
-heads_alike f same [] v alike h = tt
-heads_alike f same (t ∷ u) [] alike h = absurd (cc)
-heads_alike f same (t ∷ u) (s ∷ v) alike h = same t ∙ ap f (first_same (unplaced t) (unplaced s) _ _ alike) ∙ sym (same s) ∙ h
+pub heads_alike : (f : Sight → Bool) (u v : List Sighted) → map unplaced u ≡ map unplaced v → Heads f v → Heads f u
+heads_alike f [] v alike h = tt
+heads_alike f (t ∷ u) [] alike h = absurd (cc)
+heads_alike f (t ∷ u) (s ∷ v) alike h = ap (λ (t : Sighted). f t.sight) (first_same (unplaced t) (unplaced s) _ _ alike) ∙ h
 
 module _ (D : (s : Symbol) → ℕ → ℕ → ℕ → ℕ → List Sighted → Sort s → Type 0) where
   pub make_limited : {A : Type 0} {a : P A} {d l c m e : ℕ} {x : A} {w : List Word} {behind : List Token} → Made D a d l l m x w behind → e ≡ c → Made D (limited a) d l c e x w behind
   make_limited {m = m} p h = record { good = p.good; run = p.run; alike = p.alike; derives = (m, p.derives, h) }
 
-  pub make_when : {A : Type 0} {f : Sighted → Bool} {a : P A} {d l c e : ℕ} {x : A} {w : List Word} {behind : List Token}
-      → NoPlace f → Heads f (seen_in w behind) → Made D a d l c e x w behind → Made D (when f a) d l c e x w behind
-  make_when {f = f} {w = w} {behind = behind} same h p =
-      record { good = p.good; run = p.run; alike = p.alike; derives = (heads_alike f same p.run (seen_in w behind) p.alike h, p.derives) }
+  pub make_when : {A : Type 0} {f : Sight → Bool} {a : P A} {d l c e : ℕ} {x : A} {w : List Word} {behind : List Token}
+      → Heads f (seen_in w behind) → Made D a d l c e x w behind → Made D (when f a) d l c e x w behind
+  make_when {f = f} {w = w} {behind = behind} h p =
+      record { good = p.good; run = p.run; alike = p.alike; derives = (heads_alike f p.run (seen_in w behind) p.alike h, p.derives) }
 
   pub make_then_none : {A B : Type 0} {a : P A} {goes : A → Bool} {b : P B} {d l c e : ℕ} {x : A} {w : List Word} {behind : List Token}
       → Made D a d l c e x w behind → Made D (then_if a goes b) d l c e (x, None) w behind

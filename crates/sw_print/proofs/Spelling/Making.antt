@@ -5,7 +5,8 @@ use Rattle.sw_lex.specs.declared.token.Token.{Token}
 use Rattle.sw_grammar.specs.Grammar.{Derives_by, Heads, mark, both, either, maybe, many, when, nest, counts, limited, gives}
 use Rattle.sw_layout.specs.Words.{Word, token_of}
 use Rattle.sw_places.specs.Places.{unplaced}
-use Rattle.sw_syntax.specs.Tokens.{Sighted, Face, face_of, seen}
+use Rattle.sw_syntax.specs.declared.class.Sight.{Sight}
+use Rattle.sw_syntax.specs.Tokens.{Sighted, Face, seen}
 use Rattle.sw_syntax.specs.Symbols.{Symbol, Sort}
 use Rattle.sw_syntax.specs.Parts.{P}
 use Rattle.sw_syntax.specs.Grammar.{rule}
@@ -15,7 +16,7 @@ use Rattle.sw_print.proofs.Spelling.Good.{IsGoodWord}
 
 -- the token, as one with this face
 abbrev pub placed : Face → Sighted → Sighted
-placed face t = record { class = t.class; is_first = t.is_first; before_colon = t.before_colon; face = face }
+placed face t = record { sight = t.sight; face = face }
 
 -- ---- what is seen of words one after the other
 
@@ -41,7 +42,7 @@ module _ (D : (s : Symbol) → ℕ → ℕ → ℕ → ℕ → List Sighted → 
     pub good : Every IsGoodWord words
     pub run : List Sighted
     pub alike : map unplaced run ≡ map unplaced (seen_in words behind)
-    pub derives : Derives_by Sighted Face Symbol Sort face_of (rule false) D a d l c e run x
+    pub derives : Derives_by Sight Face Symbol Sort (rule false) D a d l c e run x
 
   pub make_both : {A B : Type 0} {a : P A} {b : P B} {d l c m e : ℕ} {x : A} {y : B} {v w : List Word} {behind : List Token}
       → Made a d l c m x v (map token_of w ++ behind) → Made b d l m e y w behind → Made (both a b) d l c e (x, y) (v ++ w) behind
@@ -78,7 +79,7 @@ module _ (D : (s : Symbol) → ℕ → ℕ → ℕ → ℕ → List Sighted → 
   make_limited {m = m} h p = record { good = p.good; run = p.run; alike = p.alike; derives = (m, p.derives, h) }
 
   -- where what is seen of the words begins with a token that passes the test
-  pub make_when : {A : Type 0} {f : Sighted → Bool} {a : P A} {d l c e : ℕ} {x : A} {w : List Word} {behind : List Token} → (p : Made a d l c e x w behind) → Heads f p.run → Made (when f a) d l c e x w behind
+  pub make_when : {A : Type 0} {f : Sight → Bool} {a : P A} {d l c e : ℕ} {x : A} {w : List Word} {behind : List Token} → (p : Made a d l c e x w behind) → Heads f p.run → Made (when f a) d l c e x w behind
   make_when p h = record { good = p.good; run = p.run; alike = p.alike; derives = (h, p.derives) }
 
   pub make_nil : {A : Type 0} {a : P A} {d l c e : ℕ} {behind : List Token} → e ≡ c → Made (many a) d l c e [] [] behind
@@ -94,8 +95,8 @@ module _ (D : (s : Symbol) → ℕ → ℕ → ℕ → ℕ → List Sighted → 
   }
 
   -- a word whose token passes the test, with a face of the same kind and text
-  pub make_mark : {f : Sighted → Bool} {d l c e : ℕ} {behind : List Token} (word : Word) (face : Face) → face.kind ≡ word.kind → face.text ≡ word.text → IsGoodWord word
-      → f (placed face (seen (token_of word) behind)) ≡ true → e ≡ c → Made (mark f) d l c e face (word ∷ []) behind
+  pub make_mark : {f : Sight → Bool} {d l c e : ℕ} {behind : List Token} (word : Word) (face : Face) → face.kind ≡ word.kind → face.text ≡ word.text → IsGoodWord word
+      → f (placed face (seen (token_of word) behind)).sight ≡ true → e ≡ c → Made (mark f) d l c e face (word ∷ []) behind
   make_mark {behind = behind} word face p q good is h = record {
     good = (good, tt);
     run = placed face (seen (token_of word) behind) ∷ [];

@@ -7,7 +7,8 @@ use Rattle.sw_lex.specs.declared.token.Token.{Token}
 use Rattle.sw_grammar.specs.Grammar.{mark}
 use Rattle.sw_layout.specs.declared.gap.Gap.{Gap}
 use Rattle.sw_layout.specs.Words.{token_of, plain, fixed}
-use Rattle.sw_syntax.specs.Tokens.{Sighted, Face, face_of, seen}
+use Rattle.sw_syntax.specs.declared.class.Sight.{Sight}
+use Rattle.sw_syntax.specs.Tokens.{Sighted, Face, seen}
 use Rattle.sw_syntax.specs.Symbols.{Symbol, Sort}
 use Rattle.sw_syntax.specs.Parts.{P, tok, place, name}
 use Rattle.sw_syntax.specs.Grammar.{rule}
@@ -21,7 +22,7 @@ use Rattle.sw_print.proofs.Spelling.Making.{Made, placed, make_mark, make_gives}
 
 -- a value that the part builds of good tokens
 abbrev pub BuiltOf : ((s : Symbol) → ℕ → ℕ → ℕ → ℕ → Sort s → Type 0) → {A : Type 0} → P A → ℕ → ℕ → ℕ → ℕ → A → Type 0
-BuiltOf B a d l c e x = Built_by Sighted Face Symbol Sort face_of (rule false) IsGood B a d l c e x
+BuiltOf B a d l c e x = Built_by Sight Face Symbol Sort (rule false) IsGood B a d l c e x
 
 -- a mark that was a good token of the kind
 abbrev pub WasMark : TokenKind → Face → Type 0
@@ -32,8 +33,8 @@ was_mark kind t x good h e = subst (WasMark kind) (sym e) (h, good_face t good)
 
 module _ (D : (s : Symbol) → ℕ → ℕ → ℕ → ℕ → List Sighted → Sort s → Type 0) (B : (s : Symbol) → ℕ → ℕ → ℕ → ℕ → Sort s → Type 0) where
   -- a reserved word or a mark, by a test that its word passes
-  pub make_plain : (f : Sighted → Bool) (kind : TokenKind) (g : Gap) (behind : List Token) (d l c e : ℕ) (x : Face) → WasMark kind x → is_free kind ≡ false
-      → f (placed x (seen (token_of (plain kind g)) behind)) ≡ true → e ≡ c → Made D (mark f) d l c e x (plain kind g ∷ []) behind
+  pub make_plain : (f : Sight → Bool) (kind : TokenKind) (g : Gap) (behind : List Token) (d l c e : ℕ) (x : Face) → WasMark kind x → is_free kind ≡ false
+      → f (placed x (seen (token_of (plain kind g)) behind)).sight ≡ true → e ≡ c → Made D (mark f) d l c e x (plain kind g ∷ []) behind
   make_plain f kind g behind d l c e x (h, good) fixed_one is same =
       let here : IsOfKind kind x.text = subst (λ kind. IsOfKind kind x.text) h good in
       let text : x.text ≡ fixed kind = fixed_text kind x.text fixed_one here.0 in
@@ -41,12 +42,12 @@ module _ (D : (s : Symbol) → ℕ → ℕ → ℕ → ℕ → List Sighted → 
 
   -- a token of the kind, that any token of the kind may stand for
   pub make_tok : (kind : TokenKind) (g : Gap) (behind : List Token) (d l c e : ℕ) (x : Face) → BuiltOf B (tok kind) d l c e x → is_free kind ≡ false
-      → is kind (placed x (seen (token_of (plain kind g)) behind)) ≡ true → Made D (tok kind) d l c e x (plain kind g ∷ []) behind
+      → is kind (placed x (seen (token_of (plain kind g)) behind)).sight ≡ true → Made D (tok kind) d l c e x (plain kind g ∷ []) behind
   make_tok kind g behind d l c e x (t, good, passed, ex, ec) fixed_one passes =
       make_plain (is kind) kind g behind d l c e x (was_mark kind t x good (is_kind kind t good passed) ex) fixed_one passes ec
 
   pub make_place : (kind : TokenKind) (g : Gap) (behind : List Token) (d l c e : ℕ) (x : Span) → BuiltOf B (place kind) d l c e x → is_free kind ≡ false
-      → ((x : Face) → is kind (placed x (seen (token_of (plain kind g)) behind)) ≡ true) → Made D (place kind) d l c e x (plain kind g ∷ []) behind
+      → ((x : Face) → is kind (placed x (seen (token_of (plain kind g)) behind)).sight ≡ true) → Made D (place kind) d l c e x (plain kind g ∷ []) behind
   make_place kind g behind d l c e x (face, p, h) fixed_one passes = make_gives D h (make_tok kind g behind d l c e face p fixed_one (passes face))
 
   pub make_name : (g : Gap) (behind : List Token) (d l c e : ℕ) (x : Name) → BuiltOf B name d l c e x → Made D name d l c e x (name_word x g ∷ []) behind

@@ -28,7 +28,7 @@ use Rattle.sw_print.proofs.Spelling.Operators.{make_operator}
 
 -- ---- signs
 
-minus_passes : (x : Face) (g : Gap) (behind : List Token) → is_sign (placed x (seen (token_of (plain k.Minus g)) behind)) ≡ true
+minus_passes : (x : Face) (g : Gap) (behind : List Token) → is_sign (placed x (seen (token_of (plain k.Minus g)) behind)).sight ≡ true
 unfolding same_kind
 minus_passes x g behind = go (touches_next behind)
   where
@@ -36,7 +36,7 @@ minus_passes x g behind = go (touches_next behind)
     go true = refl
     go false = refl
 
-bang_passes : (x : Face) (g : Gap) (behind : List Token) → is_sign (placed x (seen (token_of (plain k.Bang g)) behind)) ≡ true
+bang_passes : (x : Face) (g : Gap) (behind : List Token) → is_sign (placed x (seen (token_of (plain k.Bang g)) behind)).sight ≡ true
 unfolding same_kind
 bang_passes x g behind = go (is_joined g)
   where

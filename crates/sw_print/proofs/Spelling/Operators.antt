@@ -24,10 +24,10 @@ pub record IsOperator (n : ℕ) (t : Sighted) : Type 0 where
   pub its : t.face.kind ≡ kind
   pub back : mark_of (binary_of kind) ≡ kind
   pub one_text : is_free kind ≡ false
-  pub passes : (x : Face) (behind : List Token) → is_binary n (placed x (seen (token_of (plain kind gap.Space)) behind)) ≡ true
+  pub passes : (x : Face) (behind : List Token) → is_binary n (placed x (seen (token_of (plain kind gap.Space)) behind)).sight ≡ true
   pub no_colon : same_kind kind k.Colon ≡ false
 
-minus_passes : (x : Face) (behind : List Token) → is_binary 4 (placed x (seen (token_of (plain k.Minus gap.Space)) behind)) ≡ true
+minus_passes : (x : Face) (behind : List Token) → is_binary 4 (placed x (seen (token_of (plain k.Minus gap.Space)) behind)).sight ≡ true
 unfolding same_kind
 minus_passes x behind = go (touches_next behind)
   where
@@ -35,19 +35,19 @@ minus_passes x behind = go (touches_next behind)
     go true = refl
     go false = refl
 
-pub operator : (n : ℕ) (t : Sighted) → IsGood t → is_binary n t ≡ true → IsOperator n t
+pub operator : (n : ℕ) (t : Sighted) → IsGood t → is_binary n t.sight ≡ true → IsOperator n t
 unfolding same_kind
 operator zero t good is = record { kind = k.Or; its = is_kind k.Or t good is; back = refl; one_text = refl; passes = λ x behind. refl; no_colon = refl }
 operator (suc zero) t good is = record { kind = k.And; its = is_kind k.And t good is; back = refl; one_text = refl; passes = λ x behind. refl; no_colon = refl }
 operator (suc (suc zero)) t good passed = go (or_either _ _ passed)
   where
-    last : ((is k.Greater t || is k.GreaterEqual t) ≡ true) → IsOperator 2 t
+    last : ((is k.Greater t.sight || is k.GreaterEqual t.sight) ≡ true) → IsOperator 2 t
     last p = elim (or_either _ _ p) [
       | inl p ↦ record { kind = k.Greater; its = is_kind k.Greater t good p; back = refl; one_text = refl; passes = λ x behind. refl; no_colon = refl }
       | inr p ↦ record { kind = k.GreaterEqual; its = is_kind k.GreaterEqual t good p; back = refl; one_text = refl; passes = λ x behind. refl; no_colon = refl }
     ]
 
-    less : ((is k.Less t || (is k.LessEqual t || (is k.Greater t || is k.GreaterEqual t))) ≡ true) → IsOperator 2 t
+    less : ((is k.Less t.sight || (is k.LessEqual t.sight || (is k.Greater t.sight || is k.GreaterEqual t.sight))) ≡ true) → IsOperator 2 t
     less p = elim (or_either _ _ p) [
       | inl p ↦ record { kind = k.Less; its = is_kind k.Less t good p; back = refl; one_text = refl; passes = λ x behind. refl; no_colon = refl }
       | inr p ↦ elim (or_either _ _ p) [
@@ -56,7 +56,7 @@ operator (suc (suc zero)) t good passed = go (or_either _ _ passed)
       ]
     ]
 
-    go : (is k.EqualEqual t ≡ true) ⊎ ((is k.NotEqual t || (is k.Less t || (is k.LessEqual t || (is k.Greater t || is k.GreaterEqual t)))) ≡ true) → IsOperator 2 t
+    go : (is k.EqualEqual t.sight ≡ true) ⊎ ((is k.NotEqual t.sight || (is k.Less t.sight || (is k.LessEqual t.sight || (is k.Greater t.sight || is k.GreaterEqual t.sight)))) ≡ true) → IsOperator 2 t
     go (inl p) = record { kind = k.EqualEqual; its = is_kind k.EqualEqual t good p; back = refl; one_text = refl; passes = λ x behind. refl; no_colon = refl }
     go (inr p) = elim (or_either _ _ p) [
       | inl p ↦ record { kind = k.NotEqual; its = is_kind k.NotEqual t good p; back = refl; one_text = refl; passes = λ x behind. refl; no_colon = refl }

@@ -63,7 +63,7 @@ module _ (D : (s : Symbol) → ℕ → ℕ → ℕ → ℕ → List Sighted → 
   labelling_made d l c e y (inl ((other, Some own), (m, p, q), h)) g behind ok =
       make_left D (make_gives D h (reword D (ap (λ y. label_words y g) h ∙ ap (λ word. word ∷ name_word own gap.Space ∷ []) (name_label d l c m other p g))
       (make_both D (make_name D B g _ d l c m other p) (make_some D (make_name D B gap.Space behind d l m e own q)))))
-  labelling_made d l c e y (inr ((face, own), (m, (t, good, passed, ex, ec), q), h)) g behind ok = elim (or_either (is k.Underscore t) (is_reserved t) passed) [
+  labelling_made d l c e y (inr ((face, own), (m, (t, good, passed, ex, ec), q), h)) g behind ok = elim (or_either (is k.Underscore t.sight) (is_reserved t.sight) passed) [
     | inl p ↦
         let was = was_mark k.Underscore t face good (is_kind k.Underscore t good p) ex in
         make_right D (make_gives D h (reword D (ap (λ y. label_words y g) h ∙ ap (λ kind. parameter_label_words (label_in kind (name_of face)) own g) was.0)

@@ -1,16 +1,13 @@
 -- What is written for patterns and conditions spells them again.
 use Rattle.std.proofs.Common.{◌≡◌, ℕ, false, inl, inr, List, [], ◌∷◌, map, Some, None, refl, sym, ap, ◌∙◌}
 use Rattle.sw_base.specs.declared.ids.Span.{Span}
-use Rattle.sw_lex.specs.Bytes.{Text}
 use Rattle.sw_lex.specs.declared.token.TokenKind.TheVariants as k
 use Rattle.sw_lex.specs.declared.token.Token.{Token}
 use Rattle.sw_grammar.specs.Grammar.{mark, sym as symbol}
 use Rattle.sw_layout.specs.declared.gap.Gap.{Gap}
 use Rattle.sw_layout.specs.declared.gap.Gap.TheVariants as gap
-use Rattle.sw_layout.specs.Words.{plain, nowhere}
-use Rattle.sw_tree.specs.declared.expr.Literal.{Literal, fold-Literal}
-use Rattle.sw_tree.specs.declared.expr.Expr.{fold-roll-Expr}
-use Rattle.sw_tree.specs.declared.expr.Expr.TheOpen.{Expr-F}
+use Rattle.sw_layout.specs.Words.{plain}
+use Rattle.sw_tree.specs.declared.expr.Literal.{Literal}
 use Rattle.sw_tree.specs.declared.expr.Expr.TheVariants as node
 use Rattle.sw_tree.specs.declared.stmt.CatchPattern.TheVariants as cp
 use Rattle.sw_syntax.specs.Tokens.{same_kind, Sighted, Face}
@@ -20,24 +17,21 @@ use Rattle.sw_syntax.specs.Grammar.{rule, bind, binds, initial, conds}
 use Rattle.sw_syntax.specs.Tests.{is_let_or_var}
 use Rattle.sw_syntax.specs.Values.{binding_of}
 use Rattle.sw_grammar.proofs.Starts.{or_either}
-use Rattle.sw_print.specs.Expressions.{W, name_word, around, in_parens, literal_level, argument_level, piece_level, expr_level, expr_words, literal_words}
+use Rattle.sw_print.specs.Expressions.{name_word, around, in_parens, expr_words, literal_words}
 use Rattle.sw_print.specs.Statements.{bind_words, pattern_words, catch_pattern_words, binding_word, initial_words, condition_words, conditions_words}
 use Rattle.sw_print.proofs.Spelling.Kinds.{is_kind}
 use Rattle.sw_print.proofs.Spelling.Making.{Made, make_both, make_gives, make_left, make_right, make_none, make_some, reword}
 use Rattle.sw_print.proofs.Spelling.Marks.{BuiltOf, was_mark, make_plain, make_tok, make_place, make_name}
-use Rattle.sw_print.proofs.Spelling.TypeWords.{at}
+use Rattle.sw_print.proofs.Spelling.ExprLayers.{words_literal}
 use Rattle.sw_print.proofs.Spelling.Texts.{PartAgain}
 use Rattle.sw_print.proofs.Spelling.Prims.{literal_again}
 use Rattle.sw_print.proofs.Spelling.Lines.{Again, Laid, some_made, any_made, parens_made, maybe_made, whole_expr_again}
 
 -- ---- literals by themselves
 
-words_literal : (place : Span) (x : Literal) (g : Gap) → expr_words (node.Literal place x) g ≡ fold-Literal W W W (W × Text) expr_level literal_level argument_level piece_level x g
-words_literal place x g = at (ap expr_words (sym (node.rolls-Literal place x)) ∙ fold-roll-Expr W W W (W × Text) expr_level literal_level argument_level piece_level (Expr-F.Literal place x)) g
-
 -- wherever it stands, a literal is written alike
 words_nowhere : (place : Span) (x : Literal) (g : Gap) → literal_words x g ≡ expr_words (node.Literal place x) g
-words_nowhere place x g = words_literal nowhere x g ∙ sym (words_literal place x g)
+words_nowhere place x g = sym (words_literal place x g)
 
 module _ (D : (s : Symbol) → ℕ → ℕ → ℕ → ℕ → List Sighted → Sort s → Type 0) (B : (s : Symbol) → ℕ → ℕ → ℕ → ℕ → Sort s → Type 0) where
   -- ---- binds

@@ -63,21 +63,21 @@ type_headed = ind-Type (λ t. WellHeaded (type_words t)) (λ x y is. subst (λ x
 
 -- ---- labels
 
-label_wordy : (t : Sighted) → IsGood t → is_payload_label t ≡ true → is_wordy t.face.kind ≡ true
-label_wordy t good passed = elim (or_either (is_name t && t.before_colon) (is_reserved t && (t.before_colon || not (starts_type t))) passed) [
-  | inl p ↦ ap is_wordy (name_kind t good (and_halves (is_name t) t.before_colon p).0)
-  | inr p ↦ wordy_reserved t.face.kind (reserved_kind t good (and_halves (is_reserved t) (t.before_colon || not (starts_type t)) p).0)
+label_wordy : (t : Sighted) → IsGood t → is_payload_label t.sight ≡ true → is_wordy t.face.kind ≡ true
+label_wordy t good passed = elim (or_either (is_name t.sight && t.sight.before_colon) (is_reserved t.sight && (t.sight.before_colon || not (starts_type t.sight))) passed) [
+  | inl p ↦ ap is_wordy (name_kind t good (and_halves (is_name t.sight) t.sight.before_colon p).0)
+  | inr p ↦ wordy_reserved t.face.kind (reserved_kind t good (and_halves (is_reserved t.sight) (t.sight.before_colon || not (starts_type t.sight)) p).0)
 ]
 
 -- the word of a label, before `:`, is one
 label_passes : (kind : TokenKind) (text : Text) (g : Gap) (behind : List Token) (face : Face) → is_wordy kind ≡ true → is_next k.Colon behind ≡ true
-    → is_payload_label (placed face (seen (token_of (word kind text g)) behind)) ≡ true
+    → is_payload_label (placed face (seen (token_of (word kind text g)) behind)).sight ≡ true
 label_passes kind text g behind face h next =
     let t : Sighted = placed face (seen (token_of (word kind text g)) behind) in
     elim (either_word kind h) [
-      | inl e ↦ by_name (is_name t) (is_reserved t) t.before_colon (starts_type t) next
-          (ap (λ kind. is_name (placed face (seen (token_of (word kind text g)) behind))) e ∙ name_class text behind)
-      | inr p ↦ by_reserved (is_name t) (is_reserved t) t.before_colon (starts_type t) next (reserved_class kind (token_of (word kind text g)) behind p)
+      | inl e ↦ by_name (is_name t.sight) (is_reserved t.sight) t.sight.before_colon (starts_type t.sight) next
+          (ap (λ kind. is_name (placed face (seen (token_of (word kind text g)) behind)).sight) e ∙ name_class text behind)
+      | inr p ↦ by_reserved (is_name t.sight) (is_reserved t.sight) t.sight.before_colon (starts_type t.sight) next (reserved_class kind (token_of (word kind text g)) behind p)
     ]
 
 -- what is seen of a type before anything but `:` does not begin with a label
@@ -87,7 +87,7 @@ heads_bare [] behind run headed none alike starts = elim headed [ ]
 heads_bare (w ∷ words) behind [] headed none alike starts = tt
 heads_bare (w ∷ words) behind (t ∷ run) headed none alike starts =
     let same : unplaced t ≡ unplaced (seen (token_of w) (map token_of words ++ behind)) = first_same _ _ _ _ alike in
-    unlabelled_by (is_name t) (is_reserved t) t.before_colon (starts_type t) (ap (λ t. t.before_colon) same ∙ no_colon_next words behind headed.1 none) starts
+    unlabelled_by (is_name t.sight) (is_reserved t.sight) t.sight.before_colon (starts_type t.sight) (ap (λ t. t.sight.before_colon) same ∙ no_colon_next words behind headed.1 none) starts
   where
     first_same : {A : Type 0} (a b : A) (u v : List A) → (a ∷ u) ≡ (b ∷ v) → a ≡ b
     first_same a b u v h = cc

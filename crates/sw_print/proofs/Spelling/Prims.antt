@@ -67,7 +67,7 @@ words_pieces place text x middles last g =
 module _ (D : (s : Symbol) → ℕ → ℕ → ℕ → ℕ → List Sighted → Sort s → Type 0) (B : (s : Symbol) → ℕ → ℕ → ℕ → ℕ → Sort s → Type 0) where
   -- a token whose text is kept
   make_kept : (kind : TokenKind) (g : Gap) (behind : List Token) (d l c e : ℕ) (x : Face) → BuiltOf B (tok kind) d l c e x
-      → is kind (placed x (seen (token_of (word kind x.text g)) behind)) ≡ true → Made D (tok kind) d l c e x (word kind x.text g ∷ []) behind
+      → is kind (placed x (seen (token_of (word kind x.text g)) behind)).sight ≡ true → Made D (tok kind) d l c e x (word kind x.text g ∷ []) behind
   make_kept kind g behind d l c e x (t, good, passed, ex, ec) passes =
       let was = was_mark kind t x good (is_kind kind t good passed) ex in
       make_mark D (word kind x.text g) x was.0 refl (subst (λ kind. IsOfKind kind x.text) was.0 was.1) passes ec

@@ -25,7 +25,8 @@ use Rattle.sw_print.proofs.Spelling.Making.{Made, make_both, make_gives, make_le
 use Rattle.sw_print.proofs.Spelling.Marks.{BuiltOf, make_tok, make_name}
 use Rattle.sw_print.proofs.Spelling.Texts.{PartAgain}
 use Rattle.sw_print.proofs.Spelling.TypeWords.{TypeAgain}
-use Rattle.sw_print.proofs.Spelling.DeclParts.{Any, Stands, IsBefore, make_when, perhaps_made, braces_made, annotation_made, initial_made}
+use Rattle.sw_print.proofs.Spelling.Lines.{make_when}
+use Rattle.sw_print.proofs.Spelling.DeclParts.{Any, Stands, IsBefore, perhaps_made, braces_made, annotation_made, initial_made}
 use Rattle.sw_print.proofs.Spelling.Contextual.{make_getter}
 use Rattle.sw_print.proofs.Spelling.Getters.{no_getter}
 use Rattle.sw_print.proofs.Spelling.Parameters.{Modified}
@@ -66,7 +67,7 @@ module _ (D : (s : Symbol) → ℕ → ℕ → ℕ → ℕ → List Sighted → 
         (make_both D (make_getter D B gap.Space _ d l c m face p refl) (blocks d l m e its q behind))))))
     within_made d l c e (Some y) (inr (body, p, h)) behind before =
         let next : is_next k.LeftBrace behind ≡ false = ap (is_next k.LeftBrace) before.1 in
-        make_some D (make_right D (make_gives D h (reword D (ap getter_words h) (make_when D B (λ t. refl) (no_getter body.0 behind next)
+        make_some D (make_right D (make_gives D h (reword D (ap getter_words h) (make_when D (no_getter body.0 behind next)
         (subst (λ behind. Made D (symbol (Stmts InBlock)) d l c e body (lines (map stmt_words body.0)) behind) (sym before.1) (statements d l c e body p before.0))))))
 
     -- { (sbody | get block) }

@@ -14,7 +14,7 @@ use Rattle.sw_print.proofs.Spelling.Kinds.{question_touching}
 abbrev pub StandApart : List Sighted → Type 0
 StandApart [] = Unit {0}
 StandApart (t ∷ []) = Unit {0}
-StandApart (t ∷ next ∷ u) = (is_joined_question t ≡ true → is_joined_question next ≡ true → ⊥) × StandApart (next ∷ u)
+StandApart (t ∷ next ∷ u) = (is_joined_question t.sight ≡ true → is_joined_question next.sight ≡ true → ⊥) × StandApart (next ∷ u)
 
 abbrev pub Ok : List Sighted → Type 0
 Ok u = Every IsGood u × StandApart u
@@ -53,7 +53,7 @@ sighted_apart [] h = tt
 sighted_apart (token ∷ []) h = tt
 sighted_apart (token ∷ next ∷ tokens) h = (clash, sighted_apart (next ∷ tokens) h.1)
   where
-    clash : is_joined_question (seen token (next ∷ tokens)) ≡ true → is_joined_question (seen next tokens) ≡ true → ⊥
+    clash : is_joined_question (seen token (next ∷ tokens)).sight ≡ true → is_joined_question (seen next tokens).sight ≡ true → ⊥
     clash p q =
         let first = question_touching token.kind token (next ∷ tokens) p in
         let second = question_touching next.kind next tokens q in

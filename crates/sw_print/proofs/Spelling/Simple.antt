@@ -10,7 +10,8 @@ use Rattle.sw_syntax.specs.Symbols.{Symbol, Sort, Open, Closed, Expr, Type', Con
 use Rattle.sw_syntax.specs.Parts.{P, ◌·◌, ◌∣◌, tok, name, whole_expr}
 use Rattle.sw_syntax.specs.Grammar.{statement, annotation, catch}
 use Rattle.sw_syntax.specs.Tests.{is_range}
-use Rattle.sw_syntax.specs.Values.{or_none, range_of}
+use Rattle.sw_syntax.specs.Values.{or_none}
+use Rattle.sw_syntax.specs.Forms.{range_end}
 use Rattle.sw_print.specs.Statements.{condition_words, catch_pattern_words, annotation_words, loop_word, range_words, each_line, catches_words, stmt_words, block_words}
 use Rattle.sw_print.proofs.Spelling.Making.{make_both, make_gives, make_left, make_right, make_none, make_some, make_nil, make_cons, reword}
 use Rattle.sw_print.proofs.Spelling.Marks.{make_tok, make_place, make_name}
@@ -60,7 +61,7 @@ module _ (D : (s : Symbol) → ℕ → ℕ → ℕ → ℕ → List Sighted → 
     loop_made d l c e y (inr (x, p, h)) behind = make_right D (make_gives D h (reword D (ap (λ y. loop_word y ∷ []) h) (make_tok D B k.Underscore gap.Space behind d l c e x p refl refl)))
 
     abbrev range_part : P RangeEnd
-    range_part = gives (λ x. record { operator = range_of x.0.kind; value = x.1 }) (mark is_range · whole_expr)
+    range_part = gives (λ x. range_end x.0 x.1) (mark is_range · whole_expr)
 
     range_made : Laid D B range_part range_words
     range_made d l c e y ((sign, x), (m, p, q), h) behind =

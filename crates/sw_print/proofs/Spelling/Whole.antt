@@ -14,7 +14,8 @@ use Rattle.sw_layout.specs.Apart.{AreApart}
 use Rattle.sw_places.specs.Places.{unplaced, Alike}
 use Rattle.sw_tree.specs.declared.decl.Tree.{Tree}
 use Rattle.sw_tree.specs.declared.decl.Decl.{Decl}
-use Rattle.sw_syntax.specs.Tokens.{same_kind, class_in, class_of_name, is_next, touches_next, Sighted, Face, face_of, seen, sighted}
+use Rattle.sw_syntax.specs.declared.class.Sight.{Sight}
+use Rattle.sw_syntax.specs.Tokens.{same_kind, class_in, class_of_name, is_next, touches_next, Sighted, Face, seen, sighted}
 use Rattle.sw_syntax.specs.Symbols.{Symbol, Sort, File, Decls}
 use Rattle.sw_syntax.specs.Reading.{IntegersFit}
 use Rattle.sw_syntax.specs.Tests.{is, is_of}
@@ -135,9 +136,9 @@ respelt list tree front last all near (suc n, e, ((decls, face), (v, w, m, eu, p
     let words : List Word = decls_words decls in
     let end : Token = end_behind words in
     let made = list n source_room.brackets source_room.limit source_room.left m decls (part n (list_of Decls) source_room.brackets source_room.limit source_room.left m v decls ok p) (end ∷ []) in
-    let ended : is k.End (seen end []) ≡ true = subst (λ (kind : TokenKind). is_of k.End (class_in kind end []) ≡ true) (sym (end_kind words)) refl in
-    let (k, q) = derived Sighted Face Symbol Sort face_of (rule false) File source_room.brackets source_room.limit source_room.left m (made.run ++ seen end [] ∷ []) (record { decls = decls })
-    ((decls, face_of (seen end [])), (made.run, seen end [] ∷ [], m, refl, made.derives, (seen end [], refl, ended, refl, refl)), refl) in
+    let ended : is k.End (seen end []).sight ≡ true = subst (λ (kind : TokenKind). is_of k.End (class_in kind end []) ≡ true) (sym (end_kind words)) refl in
+    let (k, q) = derived Sight Face Symbol Sort (rule false) File source_room.brackets source_room.limit source_room.left m (made.run ++ seen end [] ∷ []) (record { decls = decls })
+    ((decls, (seen end []).face), (made.run, seen end [] ∷ [], m, refl, made.derives, (seen end [], refl, ended, refl, refl)), refl) in
     subst Respelt (sym h) (
       made.good,
       (

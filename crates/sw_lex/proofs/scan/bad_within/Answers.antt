@@ -13,15 +13,15 @@ returns-then-good-size-clause-front c =
     let good : IsGood (take c.args.size (drop at source)) c.good_front-good.result = rw take_rest at c.good_front-good.ensures in
     front_more source at c.args.size c.requires.fine (part_good (drop at source) c.args.size c.good_front-good.result good whole)
 
-pub ahead-requires-clause-lines : goal.ahead-requires-clause-lines
-ahead-requires-clause-lines c = λ short.
+pub moved-requires-clause-lines : goal.moved-requires-clause-lines
+moved-requires-clause-lines c =
     let source = c.args.source.now in
     let at = c.args.here.at in
     let near = spot_near source at c.args.here.place c.requires.place in
     omega (arith, near.0, length-take c.good_front-good.result (take (length source - at) (drop at source)), length-take (length source - at) (drop at source), length-drop at source)
 
-pub ahead-requires-clause-columns : goal.ahead-requires-clause-columns
-ahead-requires-clause-columns c = λ short.
+pub moved-requires-clause-columns : goal.moved-requires-clause-columns
+moved-requires-clause-columns c =
     let source = c.args.source.now in
     let at = c.args.here.at in
     let near = spot_near source at c.args.here.place c.requires.place in
@@ -38,4 +38,4 @@ returns-clause-front c =
 
 pub returns-clause-placed : goal.returns-clause-placed
 returns-clause-placed c =
-    place_ahead c.args.source.now c.args.here.at c.good_front-good.result c.args.here.place c.ahead.result c.requires.place (rw take_rest at c.ahead.ensures.short) c.ahead.ensures.long
+    place_ahead c.args.source.now c.args.here.at c.good_front-good.result c.args.here.place c.moved.result c.requires.place (rw take_rest at c.moved.ensures.value)

@@ -1,6 +1,7 @@
 use Rattle.std.proofs.Common.{◌≡◌, ◌≤◌, length, drop, subst, false}
 use Rattle.sw_grammar.specs.Reading.{got, bad}
-use Rattle.sw_syntax.specs.Meaning.{read_in, source_room}
+use Rattle.sw_syntax.specs.Meaning.{source_room}
+use Rattle.sw_syntax.specs.Answering.{read_in}
 use Rattle.sw_syntax.specs.Reading.{why}
 use Rattle.sw_syntax.specs.Symbols.{File}
 use Rattle.sw_syntax.proofs.Exits.{refusal_gives}
@@ -25,7 +26,5 @@ refused_at-requires-clause-inside c =
     (subst (λ S. read_in false File source_room (drop 0 S) ≡ bad (why c.in-Err-Refused.is_full) (drop c.in-Err-Refused.place S)) c.new-source.ensures
     (refusal_gives _ c.in-Err-Refused.field-0 c.in-Err-Refused.place c.in-Err-Refused.is_full _ c.in-Err-Refused.ensures.gives c.in-Err-Refused.field-0-is))
 
-pub returns-in_ok-rule-in-Err-Refused-clause-no_tree : goal.returns-in_ok-rule-in-Err-Refused-clause-no_tree
-returns-in_ok-rule-in-Err-Refused-clause-no_tree c =
-    no_tree c.args.tokens.now c.refusal.result
-    (c.refusal.ensures.cause File 0 c.in_ok-rule-in-Err-Refused.ensures.0)
+pub returns-in-Err-Refused-clause-no_tree : goal.returns-in-Err-Refused-clause-no_tree
+returns-in-Err-Refused-clause-no_tree c = no_tree c.args.tokens.now c.refused_at.result c.refused_at.ensures

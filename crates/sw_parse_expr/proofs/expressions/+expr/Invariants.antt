@@ -1,6 +1,6 @@
 use Rattle.std.proofs.Common.{◌≡◌, ◌<◌, ◌+◌, ◌≤◌, drop, length, ℕ, ◌-◌, ◌*◌, List}
 use Rattle.sw_syntax.specs.Chains.{arg_list, chain, element_list, forms, more_args, more_elements, string_rest}
-use Rattle.sw_syntax.specs.Meaning.{read}
+use Rattle.sw_syntax.specs.Answering.{read}
 use Rattle.sw_syntax.specs.Symbols as symbol
 use Rattle.sw_syntax.specs.Tokens.{Sighted}
 use Rattle.sw_parse_expr.proofs.expressions.+expr.Given as goal

@@ -1,6 +1,7 @@
 use Rattle.std.proofs.Common.{◌≡◌, ◌≤◌, length, drop, sym, subst, arith, false}
 use Rattle.sw_grammar.specs.Reading.{got, bad}
-use Rattle.sw_syntax.specs.Meaning.{read_in, source_room}
+use Rattle.sw_syntax.specs.Meaning.{source_room}
+use Rattle.sw_syntax.specs.Answering.{read_in}
 use Rattle.sw_syntax.specs.Symbols.{Expr}
 use Rattle.sw_syntax.specs.Reading.{why}
 use Rattle.sw_syntax.proofs.End.{no_end_in_expr}
@@ -16,16 +17,16 @@ expr-requires c =
     let i = c.requires.inside in
     subst (λ S. c.args.at ≤ length S) (sym c.new-source.ensures) (omega (arith, l, i))
 
-pub broken_behind-requires-clause-text : goal.broken_behind-requires-clause-text
-broken_behind-requires-clause-text c = (
+pub unbroken_behind-requires-clause-text : goal.unbroken_behind-requires-clause-text
+unbroken_behind-requires-clause-text c = (
   c.in-Ok.tree,
   text_found Expr c.args.tokens.now c.args.at c.in-Ok.tree c.in-Ok.field-0-2 c.in-Ok.end c.requires.inside
       (subst (λ S. c.in-Ok.end ≤ length S) c.new-source.ensures c.in-Ok.ensures.inside)
       (subst (λ S. read_in false Expr source_room (drop c.args.at S) ≡ got c.in-Ok.tree c.in-Ok.field-0-2 (drop c.in-Ok.end S)) c.new-source.ensures c.in-Ok.ensures.gives),
 )
 
-pub returns-in-None-clause-text : goal.returns-in-None-clause-text
-returns-in-None-clause-text c =
+pub returns-in_ok-unbroken_behind-in-Ok-clause-text : goal.returns-in_ok-unbroken_behind-in-Ok-clause-text
+returns-in_ok-unbroken_behind-in-Ok-clause-text c =
     text_found Expr c.args.tokens.now c.args.at c.in-Ok.tree c.in-Ok.field-0-2 c.in-Ok.end c.requires.inside
     (subst (λ S. c.in-Ok.end ≤ length S) c.new-source.ensures c.in-Ok.ensures.inside)
     (subst (λ S. read_in false Expr source_room (drop c.args.at S) ≡ got c.in-Ok.tree c.in-Ok.field-0-2 (drop c.in-Ok.end S)) c.new-source.ensures c.in-Ok.ensures.gives)

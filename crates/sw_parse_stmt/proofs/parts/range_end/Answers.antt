@@ -15,4 +15,4 @@ returns-in_err-value-clause-gives c =
     rw (p.1, p.2) (passes _ _ _ _ _ (stmt.range_some _ _ _ _ _ _ _ (sym c.stands.ensures.value ∙ c.if-not-stands.false) (c.take-next.ensures.taken is_range (sym c.stands.ensures.value ∙ c.if-not-stands.false))) (c.in_err-value.ensures.gives))
 
 pub returns-clause-gives : goal.returns-clause-gives
-returns-clause-gives c = after _ _ _ _ _ _ (stmt.range_some _ _ _ _ _ _ _ (sym c.stands.ensures.value ∙ c.if-not-stands.false) (c.take-next.ensures.taken is_range (sym c.stands.ensures.value ∙ c.if-not-stands.false))) (c.in_ok-value.ensures.gives) ∙ range_end _ _ _ _ _ c.range_operator-operator.ensures
+returns-clause-gives c = after _ _ _ _ _ _ (stmt.range_some _ _ _ _ _ _ _ (sym c.stands.ensures.value ∙ c.if-not-stands.false) (c.take-next.ensures.taken is_range (sym c.stands.ensures.value ∙ c.if-not-stands.false))) (c.in_ok-value.ensures.gives) ∙ range_end _ _ _ _ _ _ c.range_operator-operator.ensures

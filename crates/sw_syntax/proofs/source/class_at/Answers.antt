@@ -1,6 +1,6 @@
 use Rattle.std.proofs.Common.{drop, refl, sym, ap, ◌∙◌}
 use Rattle.sw_lex.specs.declared.token.TokenKind.TheVariants as k
-use Rattle.sw_syntax.specs.Sights.{broken_at, broken_if}
+use Rattle.sw_syntax.specs.Broken.{broken_at, broken_if}
 use Rattle.sw_syntax.proofs.SightLemmas as sights
 use Rattle.std.proofs.Common.{nat_eq, ◌+◌}
 use Rattle.sw_syntax.specs.Tokens.{class_of_name}

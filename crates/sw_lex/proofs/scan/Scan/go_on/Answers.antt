@@ -1,5 +1,5 @@
-use Rattle.std.proofs.Common.{◌≡◌, ◌+◌, ◌∙◌, ap, drop, subst, sym}
-use Rattle.std.proofs.lemmas.List.{take_rest}
+use Rattle.std.proofs.Common.{◌≡◌, ◌+◌, ◌-◌, ◌∙◌, ap, drop, length, length-drop, subst, sym, arith}
+use Rattle.std.proofs.lemmas.List.{length-take, take_rest}
 use Rattle.sw_lex.specs.declared.places.Spot.{Spot}
 use Rattle.sw_lex.specs.Characters.{IsFront, IsSeam}
 use Rattle.sw_lex.specs.Forms.{size_of}
@@ -7,8 +7,19 @@ use Rattle.sw_lex.specs.Scanning.{first_large, outermost}
 use Rattle.sw_lex.proofs.ScanLemmas.{known_more, next_seam, spot_near}
 use Rattle.sw_lex.proofs.scan.Scan.go_on.Goals as goal
 
-pub go_on-requires-clause-near : goal.go_on-requires-clause-near
-go_on-requires-clause-near c = spot_near c.args.source.now c.args.self.now.at c.args.self.now.told.here.place c.requires.known.places.here
+pub go_behind-requires-clause-lines : goal.go_behind-requires-clause-lines
+go_behind-requires-clause-lines c =
+    let source = c.args.source.now in
+    let at = c.args.self.now.at in
+    let near = spot_near source at c.args.self.now.told.here.place c.requires.known.places.here in
+    omega (arith, near.0, c.requires.short, c.requires.known.inside, length-take (length source - at) (drop at source), length-drop at source)
+
+pub go_behind-requires-clause-columns : goal.go_behind-requires-clause-columns
+go_behind-requires-clause-columns c =
+    let source = c.args.source.now in
+    let at = c.args.self.now.at in
+    let near = spot_near source at c.args.self.now.told.here.place c.requires.known.places.here in
+    omega (arith, near.1, c.requires.short, c.requires.known.inside, length-take (length source - at) (drop at source), length-drop at source)
 
 pub first_bad-self-requires-clause-seam : goal.first_bad-self-requires-clause-seam
 first_bad-self-requires-clause-seam c =
@@ -27,10 +38,9 @@ returns-clause-known c =
     known_more source scan c.args.item _ _ _ _ _ _
     c.requires.known c.requires.next c.requires.some c.requires.within
     (ap (λ n. scan.at + n) c.size_of-size.ensures.value)
-    c.in_ok-go_behind.ensures
+    c.in_ok-go_behind-2.ensures
     (c.outermost-self.ensures ∙ ap (outermost scan.opens scan.outer) c.here-here.ensures)
     (rw take_rest at c.first_large-self.ensures ∙ ap (first_large scan.large (drop scan.at source) c.args.item) c.here-here.ensures)
     (subst (λ n. IsFront source n c.first_bad-self.result) ends c.first_bad-self.ensures.front)
     c.first_bad-self.ensures.placed
-    c.in_ok-go_on.ensures.short
-    c.in_ok-go_on.ensures.long
+    (rw take_rest at c.in_ok-go_behind.ensures)

@@ -1,5 +1,5 @@
 use Rattle.std.proofs.Common.{sym, ap, subst, ◌∙◌}
-use Rattle.sw_syntax.specs.Sights.{broken_at}
+use Rattle.sw_syntax.specs.Broken.{broken_at}
 use Rattle.sw_syntax.specs.Tokens.{sighted}
 use Rattle.sw_syntax.proofs.SightLemmas as sights
 use Rattle.sw_syntax.specs.Reading.{IntegersFit}

@@ -1,5 +1,5 @@
 use Rattle.std.proofs.Common.{◌<◌, length, drop, sym, ap, ◌∙◌, subst}
-use Rattle.sw_syntax.specs.Sights.{broken_if}
+use Rattle.sw_syntax.specs.Broken.{broken_if}
 use Rattle.sw_lex.specs.Tokens.{token_of}
 use Rattle.sw_syntax.proofs.SightLemmas as sights
 use Rattle.std.proofs.Common.{nat_eq}

@@ -1,9 +1,0 @@
-use Rattle.std.proofs.Common.{◌≡◌, ◌++◌, take}
-use Rattle.std.specs.List.{flat_map}
-use Rattle.swda.specs.Source.{first_line}
-use Rattle.swda.specs.ThinText.{line_of}
-use Rattle.swda.proofs.thin_tree.shortest.Given as goal
-
--- the lines so far are written
-abbrev pub invariant-loop-stmt : goal.invariant-loop-stmt
-invariant-loop-stmt l = l.text ≡ first_line ++ flat_map line_of (take l.stmt-index l.body)
