@@ -2,9 +2,6 @@
 //! says that memory is there, nor that the definitions say what was meant.
 
 ghost use Rattle.std.specs.Prelude.{◌<◌, length};
-ghost use Rattle.sw_lex.specs.Tokens.{EndsOnce};
-ghost use Rattle.sw_syntax.specs.Reading.{IntegersFit};
-ghost use Rattle.sw_syntax.specs.Tokens.{sighted};
 
 mod rows;
 
@@ -15,9 +12,8 @@ use sw_base::Text;
 use sw_lex::{Tokens, lex};
 use sw_parse_expr::parse_expr;
 use sw_rules::{FrontError, Refusal};
-use sw_syntax::lexed_integers_fit;
 use sw_tree::{Argument, Expr, Literal, TryForm};
-use test_rows::tried;
+use test_rows::check_rows;
 
 fn put(text: &mut Text, bytes: &[u8]) -> Result<(), Fail> {
     Ok(text.push_all(bytes)?)
@@ -95,6 +91,13 @@ fn write_form(alloc: Global, text: &mut Text, tree: &Expr) -> Result<(), Fail> {
             put(text, name.as_bytes())?;
             write_part(alloc, text, x.get())
         }
+        _ => write_postfix(alloc, text, tree),
+    }
+}
+
+#[cycle(write)]
+fn write_postfix(alloc: Global, text: &mut Text, tree: &Expr) -> Result<(), Fail> {
+    match tree {
         Expr::Member(base, name) => {
             put(text, b".")?;
             write_part(alloc, text, base.get())?;
@@ -110,8 +113,8 @@ fn write_form(alloc: Global, text: &mut Text, tree: &Expr) -> Result<(), Fail> {
             }
             Ok(())
         }
-        Expr::Index(base, place) => {
-            let (_, index) = place.get();
+        Expr::Index(base, list) => {
+            let (_, index) = list.get();
             put(text, b"index")?;
             write_part(alloc, text, base.get())?;
             write_part(alloc, text, index)
@@ -183,8 +186,6 @@ fn shown(alloc: Global, tree: &Expr, end: usize) -> Result<Text, Fail> {
 /// What the tokens of a source are read as.
 fn read(alloc: Global, tokens: &Tokens) -> Result<Text, Fail>
     requires inside { 0 < length tokens.now }
-    requires ended { EndsOnce tokens.now }
-    requires fits { IntegersFit (sighted tokens.now) }
 {
     match parse_expr(alloc, tokens, 0) {
         Ok((tree, end)) => shown(alloc, &tree, end),
@@ -195,17 +196,14 @@ fn read(alloc: Global, tokens: &Tokens) -> Result<Text, Fail>
 /// What becomes of a source, as the rows write it.
 fn answer(alloc: Global, source: &[u8]) -> Result<Text, Fail> {
     match lex(alloc, source) {
-        Ok(tokens) => {
-            lexed_integers_fit();
-            read(alloc, &tokens)
-        }
+        Ok(tokens) => read(alloc, &tokens),
         Err(error) => failed(alloc, error),
     }
 }
 
 #[test]
 fn each_row_is_answered(rt: HostRuntime) -> Result<(), Fail> {
-    let (right, wrong) = tried(rt.alloc(), ROWS, answer)?;
+    let (right, wrong) = check_rows(rt.alloc(), ROWS, answer)?;
     assert_eq!(rt; wrong, None);
     assert_eq!(rt; right, 263);
     Ok(())
@@ -243,7 +241,7 @@ fn is_refused(
     Ok(answer(alloc, source.as_bytes())?.as_bytes() == wanted)
 }
 
-/// Whether brackets, opened and closed so many times, are a text of so many tokens.
+/// Whether brackets, opened and closed so many times, are an expression of so many tokens.
 fn is_taken(
     alloc: Global,
     opening: &[u8],

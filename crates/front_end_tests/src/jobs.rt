@@ -32,7 +32,7 @@ fn holding(alloc: Global) -> Result<TurnStart, NoMemory> {
     let mut frames = Stack::new(alloc);
     frames.push(Frame {
         func: FuncNo(0),
-        place: 2,
+        address: 2,
         operands,
     })?;
     Ok(TurnStart {

@@ -10,13 +10,11 @@ use sw_lex::lex;
 use sw_parse_decl::parse;
 use sw_print::print;
 use sw_rules::FrontError;
-use sw_syntax::lexed_integers_fit;
 use sw_tree::Tree;
 
 /// The tree of a source.
 fn tree_of(alloc: Global, source: &[u8]) -> Result<Tree, FrontError> {
     let tokens = lex(alloc, source)?;
-    lexed_integers_fit();
     parse(alloc, &tokens)
 }
 

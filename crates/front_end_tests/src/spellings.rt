@@ -3,9 +3,7 @@
 
 use std::alloc::Global;
 use std::test::Fail;
-use sw_layout::fixed;
-use sw_lex::{TokenKind, lex};
-use sw_syntax::same_kind;
+use sw_lex::{TokenKind, lex, same_kind};
 
 /// Reserved words, a lone `_`, and marks.
 const SPELT: [TokenKind; 82] = [
@@ -106,7 +104,7 @@ const OTHERS: [TokenKind; 7] = [
 
 /// Tells whether the lexer makes one token of this kind of its spelling.
 fn is_one_token(alloc: Global, kind: TokenKind) -> bool {
-    match lex(alloc, fixed(kind)) {
+    match lex(alloc, kind.spelling()) {
         Ok(tokens) => match (tokens.get(0), tokens.get(1), tokens.get(2)) {
             (Some(token), Some(end), None) => same_kind(token.kind, kind)
                 && end.kind == TokenKind::End,
@@ -131,7 +129,7 @@ fn each_spelling_is_one_token(rt: HostRuntime) -> Result<(), Fail> {
 #[test]
 fn other_kinds_have_no_spelling(rt: HostRuntime) -> Result<(), Fail> {
     for kind in OTHERS {
-        assert!(rt; fixed(kind).is_empty());
+        assert!(rt; kind.spelling().is_empty());
     }
     Ok(())
 }

@@ -2,8 +2,6 @@
 //! the definitions say what was meant.
 
 ghost use Rattle.std.specs.Prelude.{◌<◌};
-ghost use Rattle.sw_syntax.specs.Reading.{IntegersFit};
-ghost use Rattle.sw_syntax.specs.Tokens.{sighted};
 
 mod rows;
 
@@ -13,14 +11,15 @@ use std::test::Fail;
 use sw_base::Text;
 use sw_lex::{Tokens, lex};
 use sw_parse_stmt::block;
-use sw_syntax::{Room, Source, Stop, lexed_integers_fit};
+use sw_syntax::{Budget, Stop, TokenView};
 use sw_tree::{
     ArmLabel, Binding, Block, Branch, Catch, CatchPattern, Condition, Expr, Literal, Name, Pattern,
     RangeEnd, Stmt, SwitchArm, Type,
 };
-use test_rows::tried;
+use test_rows::check_rows;
 
-const ROOM: Room = Room {
+/// The brackets, and the operators and postfix forms, that a block may have.
+const BUDGET: Budget = Budget {
     brackets: 64,
     left: 100,
     limit: 100,
@@ -183,9 +182,9 @@ fn write_parts(alloc: Global, text: &mut Text, tree: &Stmt) -> Result<(), Fail> 
             }
             write_value(alloc, text, b" ", x)
         }
-        Stmt::Assign(place, operator, _, x) => {
+        Stmt::Assign(target, operator, _, x) => {
             let name = format!(in alloc; "set {operator:?} ")?;
-            write_value(alloc, text, name.as_bytes(), place)?;
+            write_value(alloc, text, name.as_bytes(), target)?;
             write_value(alloc, text, b" ", x)
         }
         Stmt::Discard(_, x) => write_value(alloc, text, b"_ ", x),
@@ -293,18 +292,16 @@ fn write_catch(alloc: Global, text: &mut Text, handler: &Catch) -> Result<(), Fa
 }
 
 /// What the tokens of a source are read as, as the rows write it.
-fn read(alloc: Global, tokens: &Tokens) -> Result<Text, Fail>
-    requires { IntegersFit (sighted tokens.now) }
-{
-    let source = Source::new(tokens);
+fn read(alloc: Global, tokens: &Tokens) -> Result<Text, Fail> {
+    let source = TokenView::new(tokens);
     let mut text = Text::from_bytes(alloc, b"")?;
-    let last = match block(alloc, &source, false, 0, ROOM) {
+    let last = match block(alloc, &source, false, 0, BUDGET) {
         Ok((tree, end, _)) => {
             write(alloc, &mut text, &tree)?;
             format!(in alloc; " @{end}")?
         }
-        Err(Stop::Refused(at, true)) => format!(in alloc; "refused {at} full")?,
-        Err(Stop::Refused(at, false)) => format!(in alloc; "refused {at}")?,
+        Err(Stop::Refused { at, over: true }) => format!(in alloc; "over budget {at}")?,
+        Err(Stop::Refused { at, over: false }) => format!(in alloc; "refused {at}")?,
         Err(Stop::NoMemory) => format!(in alloc; "no memory")?,
     };
     put(&mut text, last.as_bytes())?;
@@ -314,17 +311,14 @@ fn read(alloc: Global, tokens: &Tokens) -> Result<Text, Fail>
 /// What becomes of a source, as the rows write it.
 fn answer(alloc: Global, source: &[u8]) -> Result<Text, Fail> {
     match lex(alloc, source) {
-        Ok(tokens) => {
-            lexed_integers_fit();
-            read(alloc, &tokens)
-        }
+        Ok(tokens) => read(alloc, &tokens),
         Err(_) => Ok(Text::from_bytes(alloc, b"no tokens")?),
     }
 }
 
 #[test]
 fn each_row_is_answered(rt: HostRuntime) -> Result<(), Fail> {
-    let (right, wrong) = tried(rt.alloc(), ROWS, answer)?;
+    let (right, wrong) = check_rows(rt.alloc(), ROWS, answer)?;
     assert_eq!(rt; wrong, None);
     assert_eq!(rt; right, 68);
     Ok(())
@@ -357,7 +351,7 @@ fn sixty_four_braces_are_taken_and_the_next_is_refused(rt: HostRuntime) -> Resul
             .ends_with(b" @191")
     );
     let source = repeated(alloc, b"{", b"do {", 64, b"")?;
-    assert!(rt; answer(alloc, source.as_bytes())?.as_bytes() == b"refused 128 full".as_slice());
+    assert!(rt; answer(alloc, source.as_bytes())?.as_bytes() == b"over budget 128".as_slice());
     Ok(())
 }
 
@@ -371,6 +365,6 @@ fn a_hundred_else_ifs_are_taken_and_the_next_is_refused(rt: HostRuntime) -> Resu
             .ends_with(b" @506")
     );
     let source = repeated(alloc, b"{if a {}", b" else if a {}", 101, b"}")?;
-    assert!(rt; answer(alloc, source.as_bytes())?.as_bytes() == b"refused 505 full".as_slice());
+    assert!(rt; answer(alloc, source.as_bytes())?.as_bytes() == b"over budget 505".as_slice());
     Ok(())
 }

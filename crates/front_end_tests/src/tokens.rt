@@ -6,10 +6,10 @@ mod rows;
 use rows::ROWS;
 use std::alloc::Global;
 use std::test::Fail;
-use sw_base::{Span, Text};
+use sw_base::{LONGEST_SOURCE, Span, Text};
 use sw_lex::{Tokens, lex};
 use sw_rules::{FrontError, Refusal};
-use test_rows::tried;
+use test_rows::check_rows;
 
 fn flag(is_set: bool, letter: char) -> char {
     if is_set { letter } else { '-' }
@@ -72,7 +72,7 @@ fn is_long_answered(
 
 #[test]
 fn each_row_is_answered(rt: HostRuntime) -> Result<(), Fail> {
-    let (right, wrong) = tried(rt.alloc(), ROWS, answer)?;
+    let (right, wrong) = check_rows(rt.alloc(), ROWS, answer)?;
     assert_eq!(rt; wrong, None);
     assert_eq!(rt; right, 443);
     Ok(())
@@ -81,7 +81,7 @@ fn each_row_is_answered(rt: HostRuntime) -> Result<(), Fail> {
 #[test]
 fn a_source_may_have_1048576_bytes(rt: HostRuntime) -> Result<(), Fail> {
     let alloc = rt.alloc();
-    let most = 1_048_576;
+    let most = LONGEST_SOURCE;
     assert!(rt; is_long_answered(alloc, b' ', b' ', most - 1, "End \"\" 1:1048577 F-S")?);
     let wanted = "Name \"a\" 1:1 F--, End \"\" 1048575:2 F-S";
     assert!(rt; is_long_answered(alloc, b'a', b'\n', most - 1, wanted)?);
@@ -97,7 +97,7 @@ fn a_source_may_have_1048576_bytes(rt: HostRuntime) -> Result<(), Fail> {
 fn is_padded_answered(alloc: Global, first: &[u8], wanted: &str) -> Result<bool, Fail> {
     let mut source = Vec::new(alloc);
     source.extend_from_slice(first)?;
-    for _ in 0..1_048_577 {
+    for _ in 0..LONGEST_SOURCE + 1 {
         source.push(b' ')?;
     }
     Ok(answer(alloc, source.as_slice())?.as_bytes() == wanted.as_bytes())

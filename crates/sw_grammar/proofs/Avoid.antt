@@ -1,7 +1,7 @@
--- Tokens that no part of a production takes stand in no text of it.
+-- Tokens that no part of a production takes stand in no sentence of it.
 use Rattle.std.proofs.Common.{◌≡◌, ℕ, zero, suc, Bool, true, inl, inr, List, [], ◌∷◌, ◌++◌, Option, Some, None, sym, subst}
 use Rattle.sw_grammar.specs.Grammar as g
-use Rattle.sw_grammar.specs.Grammar.{Token, Part, Room, Counted, Each, Then, Heads, Derives_by, Derives, Begins_by, Begins, Spells, Begun}
+use Rattle.sw_grammar.specs.Grammar.{Token, Part, Budget, Counted, Each, Then, FirstPasses, Derives_by, Derives, ViablePrefix_by, ViablePrefix, Spells, IsViablePrefix}
 use Rattle.sw_grammar.specs.Avoiding.{Free, Avoids}
 use Rattle.sw_grammar.proofs.Starts.{not_true}
 
@@ -18,18 +18,18 @@ free_then : {K V A C : Type 0} (f : K → Bool) (D : Counted (Token K V) A) (E :
 free_then f D E goes h k c e u x None p = h c e u x p
 free_then f D E goes h k c e u x (Some y) (v, w, m, eu, p, is, q) = subst (Free f) (sym eu) (free_append f v w (h c m v x p) (k m e w y q))
 
-module _ (K V S : Type 0) (Sort : S → Type 0) (rule : (s : S) → Part K V S Sort (Sort s)) (f : K → Bool) (clean : S → Bool) where
+module _ (K V S : Type 0) (Sort : S → Type 0) (production : (s : S) → Part K V S Sort (Sort s)) (f : K → Bool) (clean : S → Bool) where
   abbrev Avd : {A : Type 0} → Part K V S Sort A → Type 0
   Avd a = Avoids K V S Sort f clean a
 
   module _ (D : (s : S) → ℕ → ℕ → ℕ → ℕ → List (Token K V) → Sort s → Type 0)
       (hd : (s : S) → clean s ≡ true → (d l c e : ℕ) (u : List (Token K V)) (x : Sort s) → D s d l c e u x → Free f u) where
     abbrev Dv : {A : Type 0} → Part K V S Sort A → ℕ → ℕ → ℕ → ℕ → List (Token K V) → A → Type 0
-    Dv a d l c e u x = Derives_by K V S Sort rule D a d l c e u x
+    Dv a d l c e u x = Derives_by K V S Sort production D a d l c e u x
 
     free_D : {A : Type 0} (a : Part K V S Sort A) → Avd a → (d l c e : ℕ) (u : List (Token K V)) (x : A) → Dv a d l c e u x → Free f u
-    free_D (g.mark h) ok d l c e u x (t, eu, is, ex, ec) = subst (Free f) (sym eu) (not_true (f t.sight) (ok t.sight is), tt)
-    free_D (g.sym s) ok d l c e u x p = hd s ok d l c e u x p
+    free_D (g.terminal h) ok d l c e u x (t, eu, is, ex, ec) = subst (Free f) (sym eu) (not_true (f t.sight) (ok t.sight is), tt)
+    free_D (g.nonterminal s) ok d l c e u x p = hd s ok d l c e u x p
     free_D (g.both a b) ok d l c e u x (v, w, m, eu, p, q) = subst (Free f) (sym eu) (free_append f v w (free_D a ok.0 d l c m v x.0 p) (free_D b ok.1 d l m e w x.1 q))
     free_D (g.either a b) ok d l c e u x (inl p) = free_D a ok.0 d l c e u x p
     free_D (g.either a b) ok d l c e u x (inr p) = free_D b ok.1 d l c e u x p
@@ -46,10 +46,10 @@ module _ (K V S : Type 0) (Sort : S → Type 0) (rule : (s : S) → Part K V S S
     free_D (g.gives h a) ok d l c e u y (x, p, ey) = free_D a ok d l c e u x p
 
     module _ (B : (s : S) → ℕ → ℕ → ℕ → List (Token K V) → Type 0) (hb : (s : S) → clean s ≡ true → (d l c : ℕ) (u : List (Token K V)) → B s d l c u → Free f u) where
-      free_B : {A : Type 0} (a : Part K V S Sort A) → Avd a → (d l c : ℕ) (u : List (Token K V)) → Begins_by K V S Sort rule D B a d l c u → Free f u
-      free_B (g.mark h) ok d l c [] p = tt
-      free_B (g.mark h) ok d l c (t ∷ u) (eu, is) = (not_true (f t.sight) (ok t.sight is), subst (Free f) (sym eu) tt)
-      free_B (g.sym s) ok d l c u p = hb s ok d l c u p
+      free_B : {A : Type 0} (a : Part K V S Sort A) → Avd a → (d l c : ℕ) (u : List (Token K V)) → ViablePrefix_by K V S Sort production D B a d l c u → Free f u
+      free_B (g.terminal h) ok d l c [] p = tt
+      free_B (g.terminal h) ok d l c (t ∷ u) (eu, is) = (not_true (f t.sight) (ok t.sight is), subst (Free f) (sym eu) tt)
+      free_B (g.nonterminal s) ok d l c u p = hb s ok d l c u p
       free_B (g.both a b) ok d l c u (inl p) = free_B a ok.0 d l c u p
       free_B (g.both a b) ok d l c u (inr (v, w, x, m, eu, p, q)) = subst (Free f) (sym eu) (free_append f v w (free_D a ok.0 d l c m v x p) (free_B b ok.1 d l m w q))
       free_B (g.either a b) ok d l c u (inl p) = free_B a ok.0 d l c u p
@@ -68,18 +68,18 @@ module _ (K V S : Type 0) (Sort : S → Type 0) (rule : (s : S) → Part K V S S
       free_B (g.limited a) ok d l c u p = free_B a ok d l l u p
       free_B (g.gives h a) ok d l c u p = free_B a ok d l c u p
 
-  module _ (clean_rules : (s : S) → clean s ≡ true → Avd (rule s)) where
-    free_text : (n : ℕ) (s : S) → clean s ≡ true → (d l c e : ℕ) (u : List (Token K V)) (x : Sort s) → Derives K V S Sort rule n s d l c e u x → Free f u
+  module _ (clean_rules : (s : S) → clean s ≡ true → Avd (production s)) where
+    free_text : (n : ℕ) (s : S) → clean s ≡ true → (d l c e : ℕ) (u : List (Token K V)) (x : Sort s) → Derives K V S Sort production n s d l c e u x → Free f u
     free_text zero s is d l c e u x p = elim p [ ]
-    free_text (suc n) s is d l c e u x p = free_D (Derives K V S Sort rule n) (free_text n) (rule s) (clean_rules s is) d l c e u x p
+    free_text (suc n) s is d l c e u x p = free_D (Derives K V S Sort production n) (free_text n) (production s) (clean_rules s is) d l c e u x p
 
-    free_beginning : (n : ℕ) (s : S) → clean s ≡ true → (d l c : ℕ) (u : List (Token K V)) → Begins K V S Sort rule n s d l c u → Free f u
+    free_beginning : (n : ℕ) (s : S) → clean s ≡ true → (d l c : ℕ) (u : List (Token K V)) → ViablePrefix K V S Sort production n s d l c u → Free f u
     free_beginning zero s is d l c u eu = subst (Free f) (sym eu) tt
-    free_beginning (suc n) s is d l c u p = free_B (Derives K V S Sort rule n) (free_text n) (Begins K V S Sort rule n) (free_beginning n) (rule s) (clean_rules s is) d l c u p
+    free_beginning (suc n) s is d l c u p = free_B (Derives K V S Sort production n) (free_text n) (ViablePrefix K V S Sort production n) (free_beginning n) (production s) (clean_rules s is) d l c u p
 
-    -- such a token stands in no text, and in no beginning of one
-    pub spelt_free : (s : S) → clean s ≡ true → (room : Room) (u : List (Token K V)) (x : Sort s) → Spells K V S Sort rule s room u x → Free f u
-    spelt_free s is room u x (n, e, p) = free_text n s is room.brackets room.limit room.left e u x p
+    -- such a token stands in no sentence, and in no beginning of one
+    pub spelt_free : (s : S) → clean s ≡ true → (budget : Budget) (u : List (Token K V)) (x : Sort s) → Spells K V S Sort production s budget u x → Free f u
+    spelt_free s is budget u x (n, e, p) = free_text n s is budget.brackets budget.limit budget.left e u x p
 
-    pub begun_free : (s : S) → clean s ≡ true → (room : Room) (u : List (Token K V)) → Begun K V S Sort rule s room u → Free f u
-    begun_free s is room u (n, p) = free_beginning n s is room.brackets room.limit room.left u p
+    pub viable_free : (s : S) → clean s ≡ true → (budget : Budget) (u : List (Token K V)) → IsViablePrefix K V S Sort production s budget u → Free f u
+    viable_free s is budget u (n, p) = free_beginning n s is budget.brackets budget.limit budget.left u p

@@ -1,19 +1,19 @@
--- The reader reads each text of the grammar, and refuses no token up to which the tokens begin one, where one token ahead decides.
+-- The reader reads each sentence of the grammar, and refuses no token up to which the tokens begin one, where one token ahead decides.
 use Rattle.std.proofs.Common.{◌≡◌, ℕ, zero, suc, ◌≤◌, Bool, true, false, cond, ◌||◌, ◌&&◌, ◌⊎◌, inl, inr, List, [], ◌∷◌, ◌++◌, length, Option, Some, None, refl, sym, ap, ◌∙◌, subst, append_assoc, arith, length-append}
 use Rattle.sw_grammar.specs.Grammar as g
-use Rattle.sw_grammar.specs.Grammar.{Token, Part, Counted, Each, Then, Heads, Derives_by, Begins_by}
-use Rattle.sw_grammar.specs.Reading.{full, stuck, Out, got, bad, spent, ◌>>=◌, at_first, or_if, if_goes, one, turns, null, first, read_by}
-use Rattle.sw_grammar.specs.Deciding.{Apart, cont, Decided}
-use Rattle.sw_grammar.proofs.Starts.{or_false, and_both, not_true, Starts, starts_append, starts_each, starts_D, starts_B, solid, text_begins}
+use Rattle.sw_grammar.specs.Grammar.{Token, Part, Counted, Each, Then, FirstPasses, Derives_by, ViablePrefix_by}
+use Rattle.sw_grammar.specs.Reading.{over_budget, unexpected, Out, got, rejected, out_of_fuel, ◌>>=◌, at_first, or_if, if_goes, one, turns, nullable, first, read_by}
+use Rattle.sw_grammar.specs.Deciding.{Apart, follow_last, Decided}
+use Rattle.sw_grammar.proofs.Starts.{or_false, and_both, not_true, Starts, starts_append, starts_each, starts_D, starts_B, solid, sentence_viable}
 
--- ---- rooms
+-- ---- budgets
 
--- Two rooms are compared, or they are not: a number of the one is at most that of the other.
+-- Two budgets are compared, or they are not: a number of the one is at most that of the other.
 abbrev pub Fits : Bool → ℕ → ℕ → Type 0
 Fits true m n = m ≤ n
 Fits false m n = Unit {0}
 
--- room may be lacking: only where they are not compared
+-- budget may be lacking: only where they are not compared
 abbrev pub MayLack : Bool → Type 0
 MayLack true = ⊥
 MayLack false = Unit {0}
@@ -49,7 +49,7 @@ regroup u v w rest e = ap (λ l. l ++ rest) e ∙ append_assoc v w rest
 pub regrouped : {T : Type 0} (P : List T → Type 0) (u v w rest : List T) → u ≡ v ++ w → P (v ++ (w ++ rest)) → P (u ++ rest)
 regrouped P u v w rest e p = subst P (sym (regroup u v w rest e)) p
 
-head_first : {K V : Type 0} (f h : K → Bool) (u rest : List (Token K V)) → Heads f u → Starts false h u → at_first f (u ++ rest) ≡ true
+head_first : {K V : Type 0} (f h : K → Bool) (u rest : List (Token K V)) → FirstPasses f u → Starts false h u → at_first f (u ++ rest) ≡ true
 head_first f h [] rest hd s = cc
 head_first f h (t ∷ u) rest hd s = hd
 
@@ -83,19 +83,19 @@ longer f (t ∷ v) m s h = omega (arith, h)
 
 -- ---- the value is read
 
--- the value and what is left, or room was lacking
+-- the value and what is left, or the budget was exceeded
 abbrev pub Reads : {T A : Type 0} → Bool → A → ℕ → List T → Out T A → Type 0
 Reads b x e0 rest (got y e r) = (y ≡ x) × (r ≡ rest) × Fits b e0 e
-Reads b x e0 rest (bad full r) = MayLack b
-Reads b x e0 rest (bad stuck r) = ⊥
-Reads b x e0 rest spent = ⊥
+Reads b x e0 rest (rejected over_budget r) = MayLack b
+Reads b x e0 rest (rejected unexpected r) = ⊥
+Reads b x e0 rest out_of_fuel = ⊥
 
 pub reads_then : {T A C : Type 0} (b : Bool) (o : Out T A) (x : A) (m0 : ℕ) (mid : List T) (k : A → ℕ → List T → Out T C) (z : C) (e0 : ℕ) (rest : List T)
     → Reads b x m0 mid o → ((m : ℕ) → Fits b m0 m → Reads b z e0 rest (k x m mid)) → Reads b z e0 rest (o >>= k)
 reads_then b (got y e r) x m0 mid k z e0 rest (ey, er, fe) h = subst (λ y. Reads b z e0 rest (k y e r)) (sym ey) (subst (λ r. Reads b z e0 rest (k x e r)) (sym er) (h e fe))
-reads_then b (bad full r) x m0 mid k z e0 rest p h = p
-reads_then b (bad stuck r) x m0 mid k z e0 rest p h = elim p [ ]
-reads_then b spent x m0 mid k z e0 rest p h = elim p [ ]
+reads_then b (rejected over_budget r) x m0 mid k z e0 rest p h = p
+reads_then b (rejected unexpected r) x m0 mid k z e0 rest p h = elim p [ ]
+reads_then b out_of_fuel x m0 mid k z e0 rest p h = elim p [ ]
 
 -- one part, and a second where it comes
 complete_then : {K V A C : Type 0} (b : Bool) (ca fb cb : K → Bool) (p : ℕ → List (Token K V) → Out (Token K V) A) (q : ℕ → List (Token K V) → Out (Token K V) C) (D : Counted (Token K V) A) (E : Counted (Token K V) C) (goes : A → Bool) → Apart ca fb
@@ -143,34 +143,34 @@ complete_turns {K} {V} {A} b f ca p D apart hs hp (suc k) (x ∷ xs) c0 e0 u c r
 
 abbrev pub Lies : {T A : Type 0} → List T → Out T A → Type 0
 Lies rest (got x c r) = (v : _) × (rest ≡ v ++ r)
-Lies rest (bad why r) = (v : _) × (rest ≡ v ++ r)
-Lies rest spent = Unit {0}
+Lies rest (rejected reason r) = (v : _) × (rest ≡ v ++ r)
+Lies rest out_of_fuel = Unit {0}
 
--- or room was lacking
+-- or the budget was exceeded
 abbrev pub Within : {T A : Type 0} → Bool → List T → Out T A → Type 0
 Within b rest (got x c r) = (v : _) × (rest ≡ v ++ r)
-Within b rest (bad full r) = MayLack b ⊎ ((v : _) × (rest ≡ v ++ r))
-Within b rest (bad stuck r) = (v : _) × (rest ≡ v ++ r)
-Within b rest spent = Unit {0}
+Within b rest (rejected over_budget r) = MayLack b ⊎ ((v : _) × (rest ≡ v ++ r))
+Within b rest (rejected unexpected r) = (v : _) × (rest ≡ v ++ r)
+Within b rest out_of_fuel = Unit {0}
 
 pub within_lies : {T A : Type 0} (b : Bool) (rest : List T) (o : Out T A) → Lies rest o → Within b rest o
 within_lies b rest (got x c r) h = h
-within_lies b rest (bad full r) h = inr h
-within_lies b rest (bad stuck r) h = h
-within_lies b rest spent h = tt
+within_lies b rest (rejected over_budget r) h = inr h
+within_lies b rest (rejected unexpected r) h = h
+within_lies b rest out_of_fuel h = tt
 
 further : {T : Type 0} (rest v r w q : List T) → rest ≡ v ++ r → r ≡ w ++ q → rest ≡ (v ++ w) ++ q
 further rest v r w q e e' = e ∙ ap (λ l. v ++ l) e' ∙ sym (append_assoc v w q)
 
 lies_more : {T A : Type 0} (rest r v : List T) → rest ≡ v ++ r → (o : Out T A) → Lies r o → Lies rest o
 lies_more rest r v e (got x c q) (w, e') = (v ++ w, further rest v r w q e e')
-lies_more rest r v e (bad why q) (w, e') = (v ++ w, further rest v r w q e e')
-lies_more rest r v e spent h = tt
+lies_more rest r v e (rejected reason q) (w, e') = (v ++ w, further rest v r w q e e')
+lies_more rest r v e out_of_fuel h = tt
 
 pub lies_then : {T A C : Type 0} (rest : List T) (o : Out T A) (k : A → ℕ → List T → Out T C) → Lies rest o → ((x : A) (c : ℕ) (r : List T) → Lies r (k x c r)) → Lies rest (o >>= k)
 lies_then rest (got x c r) k (v, e) h = lies_more rest r v e (k x c r) (h x c r)
-lies_then rest (bad why r) k h h' = h
-lies_then rest spent k h h' = tt
+lies_then rest (rejected reason r) k h h' = h
+lies_then rest out_of_fuel k h h' = tt
 
 lies_here : {T A : Type 0} (x : A) (c : ℕ) (r : List T) → Lies r (got x c r)
 lies_here x c r = ([], refl)
@@ -190,37 +190,37 @@ lies_turns f p h (suc k) c ts = lies_cond (at_first f ts) ts _ _
 
 lies_one : {K V : Type 0} (f : K → Bool) (c : ℕ) (ts : List (Token K V)) → Lies ts (one f c ts)
 lies_one f c [] = ([], refl)
-lies_one f c (t ∷ ts) = lies_cond (f t.sight) (t ∷ ts) (got t.face c ts) (bad stuck (t ∷ ts)) (t ∷ [], refl) ([], refl)
+lies_one f c (t ∷ ts) = lies_cond (f t.sight) (t ∷ ts) (got t.face c ts) (rejected unexpected (t ∷ ts)) (t ∷ [], refl) ([], refl)
 
 within_more : {T A : Type 0} (b : Bool) (rest r v : List T) → rest ≡ v ++ r → (o : Out T A) → Within b r o → Within b rest o
 within_more b rest r v e (got x c q) (w, e') = (v ++ w, further rest v r w q e e')
-within_more b rest r v e (bad full q) (inl h) = inl h
-within_more b rest r v e (bad full q) (inr (w, e')) = inr (v ++ w, further rest v r w q e e')
-within_more b rest r v e (bad stuck q) (w, e') = (v ++ w, further rest v r w q e e')
-within_more b rest r v e spent h = tt
+within_more b rest r v e (rejected over_budget q) (inl h) = inl h
+within_more b rest r v e (rejected over_budget q) (inr (w, e')) = inr (v ++ w, further rest v r w q e e')
+within_more b rest r v e (rejected unexpected q) (w, e') = (v ++ w, further rest v r w q e e')
+within_more b rest r v e out_of_fuel h = tt
 
 pub within_then : {T A C : Type 0} (b : Bool) (rest : List T) (o : Out T A) (k : A → ℕ → List T → Out T C) → Within b rest o → ((x : A) (c : ℕ) (r : List T) → Lies r (k x c r)) → Within b rest (o >>= k)
 within_then b rest (got x c r) k (v, e) h = within_more b rest r v e (k x c r) (within_lies b r (k x c r) (h x c r))
-within_then b rest (bad full r) k h h' = h
-within_then b rest (bad stuck r) k h h' = h
-within_then b rest spent k h h' = tt
+within_then b rest (rejected over_budget r) k h h' = h
+within_then b rest (rejected unexpected r) k h h' = h
+within_then b rest out_of_fuel k h h' = tt
 
--- behind a text that is read
-within_behind : {T A C : Type 0} (b : Bool) (rest mid : List T) (o : Out T A) (x : A) (m0 : ℕ) (k : A → ℕ → List T → Out T C)
+-- after a sentence that is read
+within_after : {T A C : Type 0} (b : Bool) (rest mid : List T) (o : Out T A) (x : A) (m0 : ℕ) (k : A → ℕ → List T → Out T C)
     → Reads b x m0 mid o → ((m : ℕ) → Fits b m0 m → Within b rest (k x m mid)) → Within b rest (o >>= k)
-within_behind b rest mid (got y e r) x m0 k (ey, er, fe) h = subst (λ y. Within b rest (k y e r)) (sym ey) (subst (λ r. Within b rest (k x e r)) (sym er) (h e fe))
-within_behind b rest mid (bad full r) x m0 k p h = inl p
-within_behind b rest mid (bad stuck r) x m0 k p h = elim p [ ]
-within_behind b rest mid spent x m0 k p h = elim p [ ]
+within_after b rest mid (got y e r) x m0 k (ey, er, fe) h = subst (λ y. Within b rest (k y e r)) (sym ey) (subst (λ r. Within b rest (k x e r)) (sym er) (h e fe))
+within_after b rest mid (rejected over_budget r) x m0 k p h = inl p
+within_after b rest mid (rejected unexpected r) x m0 k p h = elim p [ ]
+within_after b rest mid out_of_fuel x m0 k p h = elim p [ ]
 
--- a text, and the beginning of one behind it
+-- a sentence, and the beginning of one after it
 within_second : {K V A C : Type 0} (b : Bool) (ca fb : K → Bool) (p : List (Token K V) → Out (Token K V) A) (k : A → ℕ → List (Token K V) → Out (Token K V) C) → Apart ca fb → (v w rest : List (Token K V)) (x : A) (m0 : ℕ)
     → Within b rest (p (v ++ rest)) → (at_first ca (w ++ rest) ≡ false → Reads b x m0 (w ++ rest) (p (v ++ (w ++ rest)))) → Starts true fb w
     → ((x : A) (c : ℕ) (r : List (Token K V)) → Lies r (k x c r)) → (Starts false fb w → (m : ℕ) → Fits b m0 m → Within b rest (k x m (w ++ rest)))
     → Within b rest (p (v ++ (w ++ rest)) >>= k)
 within_second b ca fb p k apart v [] rest x m0 hv hp s any h = within_then b rest (p (v ++ rest)) k hv any
 within_second b ca fb p k apart v (t ∷ w) rest x m0 hv hp s any h =
-    within_behind b rest ((t ∷ w) ++ rest) (p (v ++ ((t ∷ w) ++ rest))) x m0 k (hp (not_true (ca t.sight) (λ e. apart t.sight e s))) (h s)
+    within_after b rest ((t ∷ w) ++ rest) (p (v ++ ((t ∷ w) ++ rest))) x m0 k (hp (not_true (ca t.sight) (λ e. apart t.sight e s))) (h s)
 
 within_turns : {K V A : Type 0} (b : Bool) (f ca : K → Bool) (p : ℕ → List (Token K V) → Out (Token K V) A) (D : Counted (Token K V) A) (B : ℕ → List (Token K V) → Type 0) → Apart ca f
     → ((c0 e0 : ℕ) (u : List (Token K V)) (x : A) → D c0 e0 u x → Starts false f u) → ((c0 : ℕ) (u : List (Token K V)) → B c0 u → Starts true f u)
@@ -255,63 +255,63 @@ within_turns {K} {V} {A} b f ca p D B apart hd hb db hp hw any (suc k) (x ∷ xs
     let read' = subst (λ l. Within b rest (p c l >>= more)) (ap (λ l. v1 ++ l) rest_of ∙ sym shape) read in
     on_true (λ o. Within b rest o) (at_first f (v ++ (w ++ rest))) _ (got [] c (v ++ (w ++ rest))) (ap (at_first f) shape ∙ at_first_app f v1 (v2 ++ (w ++ rest)) start) read'
 
-module _ (K V S : Type 0) (Sort : S → Type 0) (rule : (s : S) → Part K V S Sort (Sort s)) (heads : S → K → Bool) (empties : S → Bool) (tails : S → K → Bool) where
+module _ (K V S : Type 0) (Sort : S → Type 0) (production : (s : S) → Part K V S Sort (Sort s)) (first_table : S → K → Bool) (nullable_table : S → Bool) (follow_last_table : S → K → Bool) where
   abbrev nul : {A : Type 0} → Part K V S Sort A → Bool
-  nul a = null K V S Sort rule heads empties a
+  nul a = nullable K V S Sort production first_table nullable_table a
 
   abbrev fst : {A : Type 0} → Part K V S Sort A → K → Bool
-  fst a = first K V S Sort rule heads empties a
+  fst a = first K V S Sort production first_table nullable_table a
 
   abbrev cnt : {A : Type 0} → Part K V S Sort A → K → Bool
-  cnt a = cont K V S Sort rule heads empties tails a
+  cnt a = follow_last K V S Sort production first_table nullable_table follow_last_table a
 
   abbrev Ok : {A : Type 0} → Part K V S Sort A → Type 0
-  Ok a = Decided K V S Sort rule heads empties tails a
+  Ok a = Decided K V S Sort production first_table nullable_table follow_last_table a
 
   module _ (R : (s : S) → ℕ → ℕ → ℕ → List (Token K V) → Out (Token K V) (Sort s)) (rest_lies : (s : S) (d l c : ℕ) (ts : List (Token K V)) → Lies ts (R s d l c ts)) where
     abbrev Rd : {A : Type 0} → Part K V S Sort A → ℕ → ℕ → ℕ → List (Token K V) → Out (Token K V) A
-    Rd a d l c ts = read_by K V S Sort rule heads empties R a d l c ts
+    Rd a d l c ts = read_by K V S Sort production first_table nullable_table R a d l c ts
 
     pub lies_by : {A : Type 0} (a : Part K V S Sort A) (d l c : ℕ) (ts : List (Token K V)) → Lies ts (Rd a d l c ts)
-    lies_by (g.mark f) d l c ts = lies_one f c ts
-    lies_by (g.sym s) d l c ts = rest_lies s d l c ts
+    lies_by (g.terminal f) d l c ts = lies_one f c ts
+    lies_by (g.nonterminal s) d l c ts = rest_lies s d l c ts
     lies_by (g.both a b) d l c ts = lies_then ts (Rd a d l c ts) _ (lies_by a d l c ts) (λ x m r. lies_then r (Rd b d l m r) _ (lies_by b d l m r) (λ y e r. ([], refl)))
     lies_by (g.either a b) d l c ts = lies_cond (at_first (fst a) ts) ts _ _ (lies_by a d l c ts) (lies_by b d l c ts)
     lies_by (g.maybe a) d l c ts = lies_cond (at_first (fst a) ts) ts _ _ (lies_then ts (Rd a d l c ts) _ (lies_by a d l c ts) (λ x e r. ([], refl))) ([], refl)
     lies_by (g.many a) d l c ts = lies_turns (fst a) (Rd a d l) (lies_by a d l) (length ts) c ts
     lies_by (g.then_if a goes b) d l c ts = lies_then ts (Rd a d l c ts) _ (lies_by a d l c ts) (λ x m r. lies_goes (goes x && at_first (fst b) r) x m r (Rd b d l m r) (lies_by b d l m r))
     lies_by (g.when f a) d l c ts = lies_cond (at_first f ts) ts _ _ (lies_by a d l c ts) ([], refl)
-    lies_by (g.nest a) zero l c ts = lies_cond (at_first (fst a) ts) ts (bad full ts) (bad stuck ts) ([], refl) ([], refl)
+    lies_by (g.nest a) zero l c ts = lies_cond (at_first (fst a) ts) ts (rejected over_budget ts) (rejected unexpected ts) ([], refl) ([], refl)
     lies_by (g.nest a) (suc d) l c ts = lies_by a d l c ts
-    lies_by (g.counts a) d l zero ts = lies_cond (at_first (fst a) ts) ts (bad full ts) (bad stuck ts) ([], refl) ([], refl)
+    lies_by (g.counts a) d l zero ts = lies_cond (at_first (fst a) ts) ts (rejected over_budget ts) (rejected unexpected ts) ([], refl) ([], refl)
     lies_by (g.counts a) d l (suc c) ts = lies_by a d l c ts
     lies_by (g.limited a) d l c ts = lies_then ts (Rd a d l l ts) _ (lies_by a d l l ts) (λ x e r. ([], refl))
     lies_by (g.gives f a) d l c ts = lies_then ts (Rd a d l c ts) _ (lies_by a d l c ts) (λ x e r. ([], refl))
 
     module _ (b : Bool) (D : (s : S) → ℕ → ℕ → ℕ → ℕ → List (Token K V) → Sort s → Type 0) (B : (s : S) → ℕ → ℕ → ℕ → List (Token K V) → Type 0)
-        (hs : (s : S) (d l c e : ℕ) (u : List (Token K V)) (x : Sort s) → D s d l c e u x → Starts (empties s) (heads s) u) where
+        (hs : (s : S) (d l c e : ℕ) (u : List (Token K V)) (x : Sort s) → D s d l c e u x → Starts (nullable_table s) (first_table s) u) where
       abbrev Dv : {A : Type 0} → Part K V S Sort A → ℕ → ℕ → ℕ → ℕ → List (Token K V) → A → Type 0
-      Dv a d l c e u x = Derives_by K V S Sort rule D a d l c e u x
+      Dv a d l c e u x = Derives_by K V S Sort production D a d l c e u x
 
       abbrev Bv : {A : Type 0} → Part K V S Sort A → ℕ → ℕ → ℕ → List (Token K V) → Type 0
-      Bv a d l c u = Begins_by K V S Sort rule D B a d l c u
+      Bv a d l c u = ViablePrefix_by K V S Sort production D B a d l c u
 
       start : {A : Type 0} (a : Part K V S Sort A) → Ok a → (d l c e : ℕ) (u : List (Token K V)) (x : A) → Dv a d l c e u x → Starts (nul a) (fst a) u
-      start a ok = starts_D K V S Sort rule heads empties tails D B hs a ok
+      start a ok = starts_D K V S Sort production first_table nullable_table follow_last_table D B hs a ok
 
       firm : {A : Type 0} (a : Part K V S Sort A) → Ok a → nul a ≡ false → (d l c e : ℕ) (u : List (Token K V)) (x : A) → Dv a d l c e u x → Starts false (fst a) u
-      firm a ok = solid K V S Sort rule heads empties tails D B hs a ok
+      firm a ok = solid K V S Sort production first_table nullable_table follow_last_table D B hs a ok
 
-      -- ---- each text is read
+      -- ---- each sentence is read
 
-      module _ (h : (s : S) (d0 l0 c0 e0 : ℕ) (u : List (Token K V)) (x : Sort s) (d l c : ℕ) (rest : List (Token K V)) → D s d0 l0 c0 e0 u x → Fits b d0 d → Fits b l0 l → Fits b c0 c → at_first (tails s) rest ≡ false
+      module _ (h : (s : S) (d0 l0 c0 e0 : ℕ) (u : List (Token K V)) (x : Sort s) (d l c : ℕ) (rest : List (Token K V)) → D s d0 l0 c0 e0 u x → Fits b d0 d → Fits b l0 l → Fits b c0 c → at_first (follow_last_table s) rest ≡ false
           → Reads b x e0 rest (R s d l c (u ++ rest))) where
         pub complete_by : {A : Type 0} (a : Part K V S Sort A) → Ok a → (d0 l0 c0 e0 : ℕ) (u : List (Token K V)) (x : A) (d l c : ℕ) (rest : List (Token K V)) → Dv a d0 l0 c0 e0 u x
             → Fits b d0 d → Fits b l0 l → Fits b c0 c → at_first (cnt a) rest ≡ false → Reads b x e0 rest (Rd a d l c (u ++ rest))
-        complete_by (g.mark f) ok d0 l0 c0 e0 u x d l c rest (t, eu, is, ex, ec) fd fl fc st =
+        complete_by (g.terminal f) ok d0 l0 c0 e0 u x d l c rest (t, eu, is, ex, ec) fd fl fc st =
             subst (λ u. Reads b x e0 rest (one f c (u ++ rest))) (sym eu)
-            (on_true (λ o. Reads b x e0 rest o) (f t.sight) (got t.face c rest) (bad stuck (t ∷ rest)) is (sym ex, refl, subst (λ e. Fits b e c) (sym ec) fc))
-        complete_by (g.sym s) ok d0 l0 c0 e0 u x d l c rest p fd fl fc st = h s d0 l0 c0 e0 u x d l c rest p fd fl fc st
+            (on_true (λ o. Reads b x e0 rest o) (f t.sight) (got t.face c rest) (rejected unexpected (t ∷ rest)) is (sym ex, refl, subst (λ e. Fits b e c) (sym ec) fc))
+        complete_by (g.nonterminal s) ok d0 l0 c0 e0 u x d l c rest p fd fl fc st = h s d0 l0 c0 e0 u x d l c rest p fd fl fc st
         complete_by (g.both a z) ok d0 l0 c0 e0 u x d l c rest (v, w, m0, eu, p, q) fd fl fc st =
             let halves = at_first_or_if (nul z) (cnt z) (λ t. fst z t || cnt a t) rest st in
             let tail : at_first (cnt a) (w ++ rest) ≡ false = stops (cnt a) (fst z) (nul z) ok.2 w rest (start z ok.1 d0 l0 m0 e0 w x.1 q) (λ n. (at_first_or (fst z) (cnt a) rest (halves.1 n)).1) in
@@ -353,26 +353,26 @@ module _ (K V S : Type 0) (Sort : S → Type 0) (rule : (s : S) → Part K V S S
         complete_by (g.gives f a) ok d0 l0 c0 e0 u y d l c rest (x, p, ey) fd fl fc st =
             reads_then b (Rd a d l c (u ++ rest)) x e0 rest _ y e0 rest (complete_by a ok d0 l0 c0 e0 u x d l c rest p fd fl fc st) (λ e fe. (sym ey, refl, fe))
 
-        -- ---- no token up to which a text is begun is refused
+        -- ---- no token up to which a sentence is begun is refused
 
         module _ (nil : (s : S) (d l c : ℕ) → B s d l c []) (db : (s : S) (d l c e : ℕ) (u : List (Token K V)) (x : Sort s) → D s d l c e u x → B s d l c u)
-            (hb : (s : S) (d l c : ℕ) (u : List (Token K V)) → B s d l c u → Starts true (heads s) u)
+            (hb : (s : S) (d l c : ℕ) (u : List (Token K V)) → B s d l c u → Starts true (first_table s) u)
             (k : (s : S) (d0 l0 c0 : ℕ) (u : List (Token K V)) (d l c : ℕ) (rest : List (Token K V)) → B s d0 l0 c0 u → Fits b d0 d → Fits b l0 l → Fits b c0 c → Within b rest (R s d l c (u ++ rest))) where
           lead : {A : Type 0} (a : Part K V S Sort A) → Ok a → (d l c : ℕ) (u : List (Token K V)) → Bv a d l c u → Starts true (fst a) u
-          lead a ok = starts_B K V S Sort rule heads empties tails D B hs hb a ok
+          lead a ok = starts_B K V S Sort production first_table nullable_table follow_last_table D B hs hb a ok
 
           begun : {A : Type 0} (a : Part K V S Sort A) (d l c e : ℕ) (u : List (Token K V)) (x : A) → Dv a d l c e u x → Bv a d l c u
-          begun a = text_begins K V S Sort rule heads empties tails D B nil db a
+          begun a = sentence_viable K V S Sort production first_table nullable_table follow_last_table D B nil db a
 
           anyhow : {A : Type 0} (a : Part K V S Sort A) (d l c : ℕ) (ts : List (Token K V)) → Within b ts (Rd a d l c ts)
           anyhow a d l c ts = within_lies b ts (Rd a d l c ts) (lies_by a d l c ts)
 
           pub within_by : {A : Type 0} (a : Part K V S Sort A) → Ok a → (d0 l0 c0 : ℕ) (u : List (Token K V)) (d l c : ℕ) (rest : List (Token K V)) → Bv a d0 l0 c0 u
               → Fits b d0 d → Fits b l0 l → Fits b c0 c → Within b rest (Rd a d l c (u ++ rest))
-          within_by (g.mark f) ok d0 l0 c0 [] d l c rest p fd fl fc = anyhow (g.mark f) d l c rest
-          within_by (g.mark f) ok d0 l0 c0 (t ∷ u) d l c rest (eu, is) fd fl fc =
-              subst (λ u. Within b rest (one f c (t ∷ (u ++ rest)))) (sym eu) (on_true (λ o. Within b rest o) (f t.sight) (got t.face c rest) (bad stuck (t ∷ rest)) is ([], refl))
-          within_by (g.sym s) ok d0 l0 c0 u d l c rest p fd fl fc = k s d0 l0 c0 u d l c rest p fd fl fc
+          within_by (g.terminal f) ok d0 l0 c0 [] d l c rest p fd fl fc = anyhow (g.terminal f) d l c rest
+          within_by (g.terminal f) ok d0 l0 c0 (t ∷ u) d l c rest (eu, is) fd fl fc =
+              subst (λ u. Within b rest (one f c (t ∷ (u ++ rest)))) (sym eu) (on_true (λ o. Within b rest o) (f t.sight) (got t.face c rest) (rejected unexpected (t ∷ rest)) is ([], refl))
+          within_by (g.nonterminal s) ok d0 l0 c0 u d l c rest p fd fl fc = k s d0 l0 c0 u d l c rest p fd fl fc
           within_by (g.both a z) ok d0 l0 c0 u d l c rest (inl p) fd fl fc =
               within_then b rest (Rd a d l c (u ++ rest)) _ (within_by a ok.0 d0 l0 c0 u d l c rest p fd fl fc) (λ x m r. lies_then r (Rd z d l m r) _ (lies_by z d l m r) (λ y e r. ([], refl)))
           within_by (g.both a z) ok d0 l0 c0 u d l c rest (inr (v, w, x, m0, eu, p, q)) fd fl fc =
@@ -416,12 +416,12 @@ module _ (K V S : Type 0) (Sort : S → Type 0) (rule : (s : S) → Part K V S S
           within_by (g.nest a) ok d0 l0 c0 [] d l c rest p fd fl fc = anyhow (g.nest a) d l c rest
           within_by (g.nest a) ok zero l0 c0 (t ∷ u) d l c rest p fd fl fc = cc
           within_by (g.nest a) ok (suc d0) l0 c0 (t ∷ u) zero l c rest p fd fl fc =
-              on_true (λ o. Within b rest o) (fst a t.sight) (bad full (t ∷ (u ++ rest))) (bad stuck (t ∷ (u ++ rest))) (lead a ok.0 d0 l0 c0 (t ∷ u) p) (inl (fits_none b d0 fd))
+              on_true (λ o. Within b rest o) (fst a t.sight) (rejected over_budget (t ∷ (u ++ rest))) (rejected unexpected (t ∷ (u ++ rest))) (lead a ok.0 d0 l0 c0 (t ∷ u) p) (inl (fits_none b d0 fd))
           within_by (g.nest a) ok (suc d0) l0 c0 (t ∷ u) (suc d) l c rest p fd fl fc = within_by a ok.0 d0 l0 c0 (t ∷ u) d l c rest p (fits_less b d0 d fd) fl fc
           within_by (g.counts a) ok d0 l0 c0 [] d l c rest p fd fl fc = anyhow (g.counts a) d l c rest
           within_by (g.counts a) ok d0 l0 zero (t ∷ u) d l c rest p fd fl fc = cc
           within_by (g.counts a) ok d0 l0 (suc c0) (t ∷ u) d l zero rest p fd fl fc =
-              on_true (λ o. Within b rest o) (fst a t.sight) (bad full (t ∷ (u ++ rest))) (bad stuck (t ∷ (u ++ rest))) (lead a ok.0 d0 l0 c0 (t ∷ u) p) (inl (fits_none b c0 fc))
+              on_true (λ o. Within b rest o) (fst a t.sight) (rejected over_budget (t ∷ (u ++ rest))) (rejected unexpected (t ∷ (u ++ rest))) (lead a ok.0 d0 l0 c0 (t ∷ u) p) (inl (fits_none b c0 fc))
           within_by (g.counts a) ok d0 l0 (suc c0) (t ∷ u) d l (suc c) rest p fd fl fc = within_by a ok.0 d0 l0 c0 (t ∷ u) d l c rest p fd fl (fits_less b c0 c fc)
           within_by (g.limited a) ok d0 l0 c0 u d l c rest p fd fl fc = within_then b rest (Rd a d l l (u ++ rest)) _ (within_by a ok d0 l0 l0 u d l l rest p fd fl fl) (λ x e r. ([], refl))
           within_by (g.gives f a) ok d0 l0 c0 u d l c rest p fd fl fc = within_then b rest (Rd a d l c (u ++ rest)) _ (within_by a ok d0 l0 c0 u d l c rest p fd fl fc) (λ x e r. ([], refl))

@@ -1,7 +1,7 @@
 -- A small grammar that one token ahead decides, and what is read of some runs: sums in brackets, where signs are counted.
 use Rattle.std.proofs.Common.{◌≡◌, ℕ, suc, ◌<◌, Bool, true, false, ◌||◌, List, [], ◌∷◌, map, length, refl, lit<}
-use Rattle.sw_grammar.specs.Grammar.{Token, Part, mark, sym, both, either, many, nest, counts, limited, gives}
-use Rattle.sw_grammar.specs.Reading.{full, stuck, Out, got, bad, reads}
+use Rattle.sw_grammar.specs.Grammar.{Token, Part, terminal, nonterminal, both, either, many, nest, counts, limited, gives}
+use Rattle.sw_grammar.specs.Reading.{over_budget, unexpected, Out, got, rejected, reads}
 use Rattle.sw_grammar.specs.Deciding.{Apart, IsTable, IsDecided, Leads}
 use Rattle.sw_grammar.proofs.Whole.{reads_in}
 
@@ -35,36 +35,36 @@ is_right Plus = false
 is_right Left = false
 is_right Right = true
 
-data Symbol : Type 0 where
-  Sum : Symbol
-  Term : Symbol
+data Nonterminal : Type 0 where
+  Sum : Nonterminal
+  Term : Nonterminal
 
-abbrev Sort : Symbol → Type 0
+abbrev Sort : Nonterminal → Type 0
 Sort s = ℕ
 
 abbrev P : Type 0 → Type 1
-P A = Part Kind (Unit {0}) Symbol Sort A
+P A = Part Kind (Unit {0}) Nonterminal Sort A
 
 -- a token is its kind
 abbrev tok : Kind → Token Kind (Unit {0})
 tok kind = record { sight = kind; face = tt }
 
 -- its value is the number of its terms, those in brackets being one
-abbrev rule : (s : Symbol) → P (Sort s)
-rule Sum = gives (λ x. suc (length x.1)) (both (sym Term) (many (both (counts (mark is_plus)) (sym Term))))
-rule Term = either (gives (λ t. 1) (mark is_one)) (gives (λ x. 1) (nest (both (mark is_left) (both (limited (sym Sum)) (mark is_right)))))
+abbrev production : (s : Nonterminal) → P (Sort s)
+production Sum = gives (λ x. suc (length x.1)) (both (nonterminal Term) (many (both (counts (terminal is_plus)) (nonterminal Term))))
+production Term = either (gives (λ t. 1) (terminal is_one)) (gives (λ x. 1) (nest (both (terminal is_left) (both (limited (nonterminal Sum)) (terminal is_right)))))
 
-abbrev heads : Symbol → Kind → Bool
-heads s t = is_one t || is_left t
+abbrev first_table : Nonterminal → Kind → Bool
+first_table s t = is_one t || is_left t
 
-abbrev tails : Symbol → Kind → Bool
-tails Sum t = is_plus t
-tails Term t = false
+abbrev follow_last_table : Nonterminal → Kind → Bool
+follow_last_table Sum t = is_plus t
+follow_last_table Term t = false
 
-abbrev empties : Symbol → Bool
-empties s = false
+abbrev nullable_table : Nonterminal → Bool
+nullable_table s = false
 
-abbrev rank : Symbol → ℕ
+abbrev rank : Nonterminal → ℕ
 rank Sum = 1
 rank Term = 0
 
@@ -83,12 +83,12 @@ one_left Plus p q = cc
 one_left Left p q = cc
 one_left Right p q = cc
 
-decides : IsDecided Kind (Unit {0}) Symbol Sort rule heads empties tails rank 2
+decides : IsDecided Kind (Unit {0}) Nonterminal Sort production first_table nullable_table follow_last_table rank 2
 decides = record { table = table; low = low; leads = leads }
   where
-    table : (s : Symbol) → IsTable Kind (Unit {0}) Symbol Sort rule heads empties tails s
+    table : (s : Nonterminal) → IsTable Kind (Unit {0}) Nonterminal Sort production first_table nullable_table follow_last_table s
     table Sum = record {
-      decided = (tt, (((tt, refl), tt, never (heads Term)), refl, never is_plus), never is_plus);
+      decided = (tt, (((tt, refl), tt, never (first_table Term)), refl, never is_plus), never is_plus);
       empty = refl;
       head = λ t h. h;
       only = λ t h. h;
@@ -101,49 +101,49 @@ decides = record { table = table; low = low; leads = leads }
         tail_sum Left h = cc
         tail_sum Right h = cc
     table Term = record {
-      decided = (tt, ((tt, (tt, tt, right_sum), never (heads Sum)), refl), one_left, refl, refl);
+      decided = (tt, ((tt, (tt, tt, right_sum), never (first_table Sum)), refl), one_left, refl, refl);
       empty = refl;
       head = λ t h. h;
       only = λ t h. h;
       tail = λ t h. h;
     }
 
-    low : (s : Symbol) → rank s < 2
+    low : (s : Nonterminal) → rank s < 2
     low Sum = lit< tt
     low Term = lit< tt
 
-    leads : (s : Symbol) → Leads Kind (Unit {0}) Symbol Sort rule heads empties tails rank (rule s) (rank s)
+    leads : (s : Nonterminal) → Leads Kind (Unit {0}) Nonterminal Sort production first_table nullable_table follow_last_table rank (production s) (rank s)
     leads Sum = (lit< tt, λ h. cc)
     leads Term = (tt, (tt, λ h. cc))
 
 abbrev read_sum : ℕ → ℕ → List Kind → Out (Token Kind (Unit {0})) ℕ
-read_sum brackets signs ts = reads_in Kind (Unit {0}) Symbol Sort rule heads empties tails rank 2 decides Sum (record { brackets = brackets; left = signs; limit = signs }) (map tok ts)
+read_sum brackets signs ts = reads_in Kind (Unit {0}) Nonterminal Sort production first_table nullable_table follow_last_table rank 2 decides Sum (record { brackets = brackets; left = signs; limit = signs }) (map tok ts)
 
--- a text, and no more signs may be counted
+-- a sentence, and no more signs may be counted
 text : read_sum 1 1 (One ∷ Plus ∷ One ∷ Right ∷ []) ≡ got 2 0 (map tok (Right ∷ []))
 unfolding reads
 text = refl
 
--- a count ends with its part: the sign in the brackets is not counted behind them
+-- a count ends with its part: the sign in the brackets is not counted after them
 text_in_brackets : read_sum 1 1 (Left ∷ One ∷ Plus ∷ One ∷ Right ∷ Plus ∷ One ∷ []) ≡ got 2 0 []
 unfolding reads
 text_in_brackets = refl
 
 -- one sign too many
-too_many : read_sum 1 1 (One ∷ Plus ∷ One ∷ Plus ∷ One ∷ []) ≡ bad full (map tok (Plus ∷ One ∷ []))
+too_many : read_sum 1 1 (One ∷ Plus ∷ One ∷ Plus ∷ One ∷ []) ≡ rejected over_budget (map tok (Plus ∷ One ∷ []))
 unfolding reads
 too_many = refl
 
 -- one bracket too many
-too_deep : read_sum 1 1 (Left ∷ Left ∷ One ∷ []) ≡ bad full (map tok (Left ∷ One ∷ []))
+too_deep : read_sum 1 1 (Left ∷ Left ∷ One ∷ []) ≡ rejected over_budget (map tok (Left ∷ One ∷ []))
 unfolding reads
 too_deep = refl
 
--- a token that goes on with no text, and the end where one is wanted
-out_of_place : read_sum 1 1 (One ∷ Plus ∷ Plus ∷ []) ≡ bad stuck (map tok (Plus ∷ []))
+-- a token that goes on with no sentence, and the end where one is wanted
+out_of_place : read_sum 1 1 (One ∷ Plus ∷ Plus ∷ []) ≡ rejected unexpected (map tok (Plus ∷ []))
 unfolding reads
 out_of_place = refl
 
-at_the_end : read_sum 1 1 (Left ∷ One ∷ []) ≡ bad stuck []
+at_the_end : read_sum 1 1 (Left ∷ One ∷ []) ≡ rejected unexpected []
 unfolding reads
 at_the_end = refl

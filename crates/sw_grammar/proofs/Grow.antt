@@ -1,13 +1,13 @@
--- What is derived or begun in a room is so in each larger room, and by each larger height.
+-- What is derived or begun within a budget is so in each larger budget, and by each larger height.
 use Rattle.std.proofs.Common.{◌≡◌, ◌≤◌, ◌+◌, inl, inr, ℕ, zero, suc, Bool, List, [], ◌∷◌, Option, Some, None, refl, sym, ap, subst, arith}
 use Rattle.sw_grammar.specs.Grammar as g
-use Rattle.sw_grammar.specs.Grammar.{Token, Part, Room, IsWithin, Counted, Each, Then, Heads, Derives_by, Derives, Begins_by, Begins, Spells, Begun}
+use Rattle.sw_grammar.specs.Grammar.{Token, Part, Budget, IsWithin, Counted, Each, Then, FirstPasses, Derives_by, Derives, ViablePrefix_by, ViablePrefix, Spells, IsViablePrefix}
 
--- what was left behind a text grows as what was left before it
+-- what was left after a sentence grows as what was left before it
 abbrev pub Grown : (ℕ → Type 0) → ℕ → ℕ → ℕ → Type 0
 Grown D c0 e0 c = (e : ℕ) × (c + e0 ≡ e + c0) × D e
 
--- a text is one for each larger count
+-- a sentence is one for each larger count
 abbrev pub Grows : {T A : Type 0} → Counted T A → Counted T A → Type 0
 Grows {T} {A} D D' = (c0 e0 : ℕ) (u : List T) (x : A) → D c0 e0 u x → (c : ℕ) → c0 ≤ c → Grown (λ e. D' c e u x) c0 e0 c
 
@@ -29,7 +29,7 @@ grow_then D D' E E' goes h k c0 e0 u x (Some y) (v, w, m0, eu, p, is, q) c le =
     let (e, ge, q') = k m0 e0 w y q m (omega (arith, gm, le)) in
     (e, omega (arith, gm, ge), (v, w, m, eu, p', is, q'))
 
-module _ (K V S : Type 0) (Sort : S → Type 0) (rule : (s : S) → Part K V S Sort (Sort s)) where
+module _ (K V S : Type 0) (Sort : S → Type 0) (production : (s : S) → Part K V S Sort (Sort s)) where
   abbrev pub Deriving : Type 1
   Deriving = (s : S) → ℕ → ℕ → ℕ → ℕ → List (Token K V) → Sort s → Type 0
 
@@ -37,40 +37,40 @@ module _ (K V S : Type 0) (Sort : S → Type 0) (rule : (s : S) → Part K V S S
   Beginning = (s : S) → ℕ → ℕ → ℕ → List (Token K V) → Type 0
 
   abbrev Dv : Deriving → {A : Type 0} → Part K V S Sort A → ℕ → ℕ → ℕ → ℕ → List (Token K V) → A → Type 0
-  Dv D a d l c e u x = Derives_by K V S Sort rule D a d l c e u x
+  Dv D a d l c e u x = Derives_by K V S Sort production D a d l c e u x
 
   abbrev Bv : Deriving → Beginning → {A : Type 0} → Part K V S Sort A → ℕ → ℕ → ℕ → List (Token K V) → Type 0
-  Bv D B a d l c u = Begins_by K V S Sort rule D B a d l c u
+  Bv D B a d l c u = ViablePrefix_by K V S Sort production D B a d l c u
 
-  -- no token begins a text of anything
-  pub begins_nil_by : (D : Deriving) (B : Beginning) → ((s : S) (d l c : ℕ) → B s d l c []) → {A : Type 0} (a : Part K V S Sort A) (d l c : ℕ) → Bv D B a d l c []
-  begins_nil_by D B h (g.mark f) d l c = tt
-  begins_nil_by D B h (g.sym s) d l c = h s d l c
-  begins_nil_by D B h (g.both a b) d l c = inl (begins_nil_by D B h a d l c)
-  begins_nil_by D B h (g.either a b) d l c = inl (begins_nil_by D B h a d l c)
-  begins_nil_by D B h (g.maybe a) d l c = inl refl
-  begins_nil_by D B h (g.many a) d l c = inl refl
-  begins_nil_by D B h (g.then_if a goes b) d l c = inl (begins_nil_by D B h a d l c)
-  begins_nil_by D B h (g.when f a) d l c = (tt, begins_nil_by D B h a d l c)
-  begins_nil_by D B h (g.nest a) zero l c = refl
-  begins_nil_by D B h (g.nest a) (suc d) l c = begins_nil_by D B h a d l c
-  begins_nil_by D B h (g.counts a) d l zero = refl
-  begins_nil_by D B h (g.counts a) d l (suc c) = begins_nil_by D B h a d l c
-  begins_nil_by D B h (g.limited a) d l c = begins_nil_by D B h a d l l
-  begins_nil_by D B h (g.gives f a) d l c = begins_nil_by D B h a d l c
+  -- no token begins a sentence of anything
+  pub viable_nil_by : (D : Deriving) (B : Beginning) → ((s : S) (d l c : ℕ) → B s d l c []) → {A : Type 0} (a : Part K V S Sort A) (d l c : ℕ) → Bv D B a d l c []
+  viable_nil_by D B h (g.terminal f) d l c = tt
+  viable_nil_by D B h (g.nonterminal s) d l c = h s d l c
+  viable_nil_by D B h (g.both a b) d l c = inl (viable_nil_by D B h a d l c)
+  viable_nil_by D B h (g.either a b) d l c = inl (viable_nil_by D B h a d l c)
+  viable_nil_by D B h (g.maybe a) d l c = inl refl
+  viable_nil_by D B h (g.many a) d l c = inl refl
+  viable_nil_by D B h (g.then_if a goes b) d l c = inl (viable_nil_by D B h a d l c)
+  viable_nil_by D B h (g.when f a) d l c = (tt, viable_nil_by D B h a d l c)
+  viable_nil_by D B h (g.nest a) zero l c = refl
+  viable_nil_by D B h (g.nest a) (suc d) l c = viable_nil_by D B h a d l c
+  viable_nil_by D B h (g.counts a) d l zero = refl
+  viable_nil_by D B h (g.counts a) d l (suc c) = viable_nil_by D B h a d l c
+  viable_nil_by D B h (g.limited a) d l c = viable_nil_by D B h a d l l
+  viable_nil_by D B h (g.gives f a) d l c = viable_nil_by D B h a d l c
 
-  pub begins_nil : (n : ℕ) (s : S) (d l c : ℕ) → Begins K V S Sort rule n s d l c []
-  begins_nil zero s d l c = refl
-  begins_nil (suc n) s d l c = begins_nil_by (Derives K V S Sort rule n) (Begins K V S Sort rule n) (begins_nil n) (rule s) d l c
+  pub viable_nil : (n : ℕ) (s : S) (d l c : ℕ) → ViablePrefix K V S Sort production n s d l c []
+  viable_nil zero s d l c = refl
+  viable_nil (suc n) s d l c = viable_nil_by (Derives K V S Sort production n) (ViablePrefix K V S Sort production n) (viable_nil n) (production s) d l c
 
-  -- for each symbol: what D derives, D' does in each larger room
+  -- for each nonterminal: what D derives, D' does in each larger budget
   abbrev GrowsIn : Deriving → Deriving → Type 0
   GrowsIn D D' = (s : S) (d0 l0 c0 e0 : ℕ) (u : List (Token K V)) (x : Sort s) → D s d0 l0 c0 e0 u x → (d l c : ℕ) → d0 ≤ d → l0 ≤ l → c0 ≤ c → Grown (λ e. D' s d l c e u x) c0 e0 c
 
   module _ (D D' : Deriving) (h : GrowsIn D D') where
     grow_by : {A : Type 0} (a : Part K V S Sort A) (d0 l0 c0 e0 : ℕ) (u : List (Token K V)) (x : A) → Dv D a d0 l0 c0 e0 u x → (d l c : ℕ) → d0 ≤ d → l0 ≤ l → c0 ≤ c → Grown (λ e. Dv D' a d l c e u x) c0 e0 c
-    grow_by (g.mark f) d0 l0 c0 e0 u x (t, eu, is, ex, ec) d l c hd hl hc = (c, same_left c0 e0 c ec, (t, eu, is, ex, refl))
-    grow_by (g.sym s) d0 l0 c0 e0 u x p d l c hd hl hc = h s d0 l0 c0 e0 u x p d l c hd hl hc
+    grow_by (g.terminal f) d0 l0 c0 e0 u x (t, eu, is, ex, ec) d l c hd hl hc = (c, same_left c0 e0 c ec, (t, eu, is, ex, refl))
+    grow_by (g.nonterminal s) d0 l0 c0 e0 u x p d l c hd hl hc = h s d0 l0 c0 e0 u x p d l c hd hl hc
     grow_by (g.both a b) d0 l0 c0 e0 u x (v, w, m0, eu, p, q) d l c hd hl hc =
         let (m, gm, p') = grow_by a d0 l0 c0 m0 v x.0 p d l c hd hl hc in
         let (e, ge, q') = grow_by b d0 l0 m0 e0 w x.1 q d l m hd hl (omega (arith, gm, hc)) in
@@ -97,9 +97,9 @@ module _ (K V S : Type 0) (Sort : S → Type 0) (rule : (s : S) → Part K V S S
     module _ (B B' : Beginning) (nil : (s : S) (d l c : ℕ) → B' s d l c [])
         (k : (s : S) (d0 l0 c0 : ℕ) (u : List (Token K V)) → B s d0 l0 c0 u → (d l c : ℕ) → d0 ≤ d → l0 ≤ l → c0 ≤ c → B' s d l c u) where
       grow_b : {A : Type 0} (a : Part K V S Sort A) (d0 l0 c0 : ℕ) (u : List (Token K V)) → Bv D B a d0 l0 c0 u → (d l c : ℕ) → d0 ≤ d → l0 ≤ l → c0 ≤ c → Bv D' B' a d l c u
-      grow_b (g.mark f) d0 l0 c0 [] p d l c hd hl hc = tt
-      grow_b (g.mark f) d0 l0 c0 (t ∷ u) p d l c hd hl hc = p
-      grow_b (g.sym s) d0 l0 c0 u p d l c hd hl hc = k s d0 l0 c0 u p d l c hd hl hc
+      grow_b (g.terminal f) d0 l0 c0 [] p d l c hd hl hc = tt
+      grow_b (g.terminal f) d0 l0 c0 (t ∷ u) p d l c hd hl hc = p
+      grow_b (g.nonterminal s) d0 l0 c0 u p d l c hd hl hc = k s d0 l0 c0 u p d l c hd hl hc
       grow_b (g.both a b) d0 l0 c0 u (inl p) d l c hd hl hc = inl (grow_b a d0 l0 c0 u p d l c hd hl hc)
       grow_b (g.both a b) d0 l0 c0 u (inr (v, w, x, m0, eu, p, q)) d l c hd hl hc =
           let (m, gm, p') = grow_by a d0 l0 c0 m0 v x p d l c hd hl hc in
@@ -117,10 +117,10 @@ module _ (K V S : Type 0) (Sort : S → Type 0) (rule : (s : S) → Part K V S S
           let (m, gm, p') = grow_by a d0 l0 c0 m0 v x p d l c hd hl hc in
           inr (v, w, x, m, eu, p', is, grow_b b d0 l0 m0 w q d l m hd hl (omega (arith, gm, hc)))
       grow_b (g.when f a) d0 l0 c0 u (is, p) d l c hd hl hc = (is, grow_b a d0 l0 c0 u p d l c hd hl hc)
-      grow_b (g.nest a) zero l0 c0 u eu d l c hd hl hc = subst (Bv D' B' (g.nest a) d l c) (sym eu) (begins_nil_by D' B' nil (g.nest a) d l c)
+      grow_b (g.nest a) zero l0 c0 u eu d l c hd hl hc = subst (Bv D' B' (g.nest a) d l c) (sym eu) (viable_nil_by D' B' nil (g.nest a) d l c)
       grow_b (g.nest a) (suc d0) l0 c0 u p zero l c hd hl hc = absurd (omega (arith, hd))
       grow_b (g.nest a) (suc d0) l0 c0 u p (suc d) l c hd hl hc = grow_b a d0 l0 c0 u p d l c (omega (arith, hd)) hl hc
-      grow_b (g.counts a) d0 l0 zero u eu d l c hd hl hc = subst (Bv D' B' (g.counts a) d l c) (sym eu) (begins_nil_by D' B' nil (g.counts a) d l c)
+      grow_b (g.counts a) d0 l0 zero u eu d l c hd hl hc = subst (Bv D' B' (g.counts a) d l c) (sym eu) (viable_nil_by D' B' nil (g.counts a) d l c)
       grow_b (g.counts a) d0 l0 (suc c0) u p d l zero hd hl hc = absurd (omega (arith, hc))
       grow_b (g.counts a) d0 l0 (suc c0) u p d l (suc c) hd hl hc = grow_b a d0 l0 c0 u p d l c hd hl (omega (arith, hc))
       grow_b (g.limited a) d0 l0 c0 u p d l c hd hl hc = grow_b a d0 l0 l0 u p d l l hd hl hl
@@ -129,27 +129,27 @@ module _ (K V S : Type 0) (Sort : S → Type 0) (rule : (s : S) → Part K V S S
   -- ---- heights
 
   abbrev Dn : ℕ → Deriving
-  Dn n = Derives K V S Sort rule n
+  Dn n = Derives K V S Sort production n
 
   abbrev Bn : ℕ → Beginning
-  Bn n = Begins K V S Sort rule n
+  Bn n = ViablePrefix K V S Sort production n
 
   pub grow : (n m : ℕ) → n ≤ m → GrowsIn (Dn n) (Dn m)
   grow zero m le s d0 l0 c0 e0 u x p d l c hd hl hc = elim p [ ]
   grow (suc n) zero le s d0 l0 c0 e0 u x p d l c hd hl hc = absurd (omega (arith, le))
-  grow (suc n) (suc m) le s d0 l0 c0 e0 u x p d l c hd hl hc = grow_by (Dn n) (Dn m) (grow n m (omega (arith, le))) (rule s) d0 l0 c0 e0 u x p d l c hd hl hc
+  grow (suc n) (suc m) le s d0 l0 c0 e0 u x p d l c hd hl hc = grow_by (Dn n) (Dn m) (grow n m (omega (arith, le))) (production s) d0 l0 c0 e0 u x p d l c hd hl hc
 
   pub grow_part : (n m : ℕ) → n ≤ m → {A : Type 0} (a : Part K V S Sort A) (d0 l0 c0 e0 : ℕ) (u : List (Token K V)) (x : A) → Dv (Dn n) a d0 l0 c0 e0 u x → (d l c : ℕ) → d0 ≤ d → l0 ≤ l → c0 ≤ c → Grown (λ e. Dv (Dn m) a d l c e u x) c0 e0 c
   grow_part n m le a = grow_by (Dn n) (Dn m) (grow n m le) a
 
-  pub grow_begun : (n m : ℕ) → n ≤ m → (s : S) (d0 l0 c0 : ℕ) (u : List (Token K V)) → Bn n s d0 l0 c0 u → (d l c : ℕ) → d0 ≤ d → l0 ≤ l → c0 ≤ c → Bn m s d l c u
-  grow_begun zero m le s d0 l0 c0 u eu d l c hd hl hc = subst (Bn m s d l c) (sym eu) (begins_nil m s d l c)
-  grow_begun (suc n) zero le s d0 l0 c0 u p d l c hd hl hc = absurd (omega (arith, le))
-  grow_begun (suc n) (suc m) le s d0 l0 c0 u p d l c hd hl hc =
-      grow_b (Dn n) (Dn m) (grow n m (omega (arith, le))) (Bn n) (Bn m) (begins_nil m) (grow_begun n m (omega (arith, le))) (rule s) d0 l0 c0 u p d l c hd hl hc
+  pub grow_viable : (n m : ℕ) → n ≤ m → (s : S) (d0 l0 c0 : ℕ) (u : List (Token K V)) → Bn n s d0 l0 c0 u → (d l c : ℕ) → d0 ≤ d → l0 ≤ l → c0 ≤ c → Bn m s d l c u
+  grow_viable zero m le s d0 l0 c0 u eu d l c hd hl hc = subst (Bn m s d l c) (sym eu) (viable_nil m s d l c)
+  grow_viable (suc n) zero le s d0 l0 c0 u p d l c hd hl hc = absurd (omega (arith, le))
+  grow_viable (suc n) (suc m) le s d0 l0 c0 u p d l c hd hl hc =
+      grow_b (Dn n) (Dn m) (grow n m (omega (arith, le))) (Bn n) (Bn m) (viable_nil m) (grow_viable n m (omega (arith, le))) (production s) d0 l0 c0 u p d l c hd hl hc
 
-  pub grow_begun_part : (n m : ℕ) → n ≤ m → {A : Type 0} (a : Part K V S Sort A) (d0 l0 c0 : ℕ) (u : List (Token K V)) → Bv (Dn n) (Bn n) a d0 l0 c0 u → (d l c : ℕ) → d0 ≤ d → l0 ≤ l → c0 ≤ c → Bv (Dn m) (Bn m) a d l c u
-  grow_begun_part n m le a = grow_b (Dn n) (Dn m) (grow n m le) (Bn n) (Bn m) (begins_nil m) (grow_begun n m le) a
+  pub grow_viable_part : (n m : ℕ) → n ≤ m → {A : Type 0} (a : Part K V S Sort A) (d0 l0 c0 : ℕ) (u : List (Token K V)) → Bv (Dn n) (Bn n) a d0 l0 c0 u → (d l c : ℕ) → d0 ≤ d → l0 ≤ l → c0 ≤ c → Bv (Dn m) (Bn m) a d l c u
+  grow_viable_part n m le a = grow_b (Dn n) (Dn m) (grow n m le) (Bn n) (Bn m) (viable_nil m) (grow_viable n m le) a
 
   -- more height changes nothing
   pub up : (n m : ℕ) → n ≤ m → (s : S) (d l c e : ℕ) (u : List (Token K V)) (x : Sort s) → Dn n s d l c e u x → Dn m s d l c e u x
@@ -158,13 +158,13 @@ module _ (K V S : Type 0) (Sort : S → Type 0) (rule : (s : S) → Part K V S S
       let same : e' ≡ e = omega (arith, ge) in
       subst (λ e. Dn m s d l c e u x) same p'
 
-  pub up_begun : (n m : ℕ) → n ≤ m → (s : S) (d l c : ℕ) (u : List (Token K V)) → Bn n s d l c u → Bn m s d l c u
-  up_begun n m le s d l c u p = grow_begun n m le s d l c u p d l c (omega arith) (omega arith) (omega arith)
+  pub up_viable : (n m : ℕ) → n ≤ m → (s : S) (d l c : ℕ) (u : List (Token K V)) → Bn n s d l c u → Bn m s d l c u
+  up_viable n m le s d l c u p = grow_viable n m le s d l c u p d l c (omega arith) (omega arith) (omega arith)
 
-  -- a text is one in each larger room, and what begins one does
-  pub spelt_larger : (s : S) (r r' : Room) (u : List (Token K V)) (x : Sort s) → IsWithin r r' → Spells K V S Sort rule s r u x → Spells K V S Sort rule s r' u x
+  -- a sentence is one in each larger budget, and what begins one does
+  pub spelt_larger : (s : S) (r r' : Budget) (u : List (Token K V)) (x : Sort s) → IsWithin r r' → Spells K V S Sort production s r u x → Spells K V S Sort production s r' u x
   spelt_larger s r r' u x le (n, e, p) =
       let (e', ge, p') = grow n n (omega arith) s r.brackets r.limit r.left e u x p r'.brackets r'.limit r'.left le.0 le.2 le.1 in (n, e', p')
 
-  pub begun_larger : (s : S) (r r' : Room) (u : List (Token K V)) → IsWithin r r' → Begun K V S Sort rule s r u → Begun K V S Sort rule s r' u
-  begun_larger s r r' u le (n, p) = (n, grow_begun n n (omega arith) s r.brackets r.limit r.left u p r'.brackets r'.limit r'.left le.0 le.2 le.1)
+  pub viable_larger : (s : S) (r r' : Budget) (u : List (Token K V)) → IsWithin r r' → IsViablePrefix K V S Sort production s r u → IsViablePrefix K V S Sort production s r' u
+  viable_larger s r r' u le (n, p) = (n, grow_viable n n (omega arith) s r.brackets r.limit r.left u p r'.brackets r'.limit r'.left le.0 le.2 le.1)

@@ -2,7 +2,7 @@ pub mod Grow
 pub mod Starts
 pub mod Leading
 pub mod Sound
-pub mod Steps
+pub mod Equations
 pub mod Exact
 pub mod Past
 pub mod Whole
@@ -10,6 +10,7 @@ pub mod Prefix
 pub mod Avoid
 pub mod Example
 pub mod Near
-pub mod Begun
+pub mod Viable
 pub mod Only
 pub mod Checked
+pub mod Halting

@@ -1,7 +1,7 @@
 -- Runs that are alike up to what the faces of their tokens tell apart spell values that are near each other.
 use Rattle.std.proofs.Common.{◌≡◌, ℕ, zero, suc, Bool, ◌⊎◌, inl, inr, List, [], ◌∷◌, ◌++◌, map, Option, Some, None, refl, sym, ap, ◌∙◌, subst}
 use Rattle.sw_grammar.specs.Grammar as g
-use Rattle.sw_grammar.specs.Grammar.{Token, Part, Room, Counted, Each, Then, Heads, Derives_by, Derives, Spells}
+use Rattle.sw_grammar.specs.Grammar.{Token, Part, Budget, Counted, Each, Then, FirstPasses, Derives_by, Derives, Spells}
 
 -- ---- runs that are alike, cut where one of them is cut
 
@@ -30,7 +30,7 @@ one_same : {T : Type 0} (strip : T → T) (t : T) (u : List T) → map strip (t 
 one_same strip t [] h = cc
 one_same strip t (t' ∷ u) h = (t', ap (λ l. t' ∷ l) (nothing strip u (rest_same _ _ _ _ h)), first_same _ _ _ _ h)
 
-heads_same : {K V : Type 0} (strip : Token K V → Token K V) (f : K → Bool) → ((t t' : Token K V) → strip t ≡ strip t' → t.sight ≡ t'.sight) → (u u' : List (Token K V)) → map strip u ≡ map strip u' → Heads f u → Heads f u'
+heads_same : {K V : Type 0} (strip : Token K V → Token K V) (f : K → Bool) → ((t t' : Token K V) → strip t ≡ strip t' → t.sight ≡ t'.sight) → (u u' : List (Token K V)) → map strip u ≡ map strip u' → FirstPasses f u → FirstPasses f u'
 heads_same strip f k u [] h p = tt
 heads_same strip f k [] (t ∷ u') h p = cc
 heads_same strip f k (t ∷ u) (t' ∷ u') h p = ap f (sym (k t t' (first_same _ _ _ _ h))) ∙ p
@@ -70,12 +70,12 @@ follow_then strip L K D E goes same f k c e u u' x (Some z) h (v, w, m, eu, p, i
     let (z', like', q') = k m e w w' z hw q in
     ((y, Some z'), (like, like'), (v', w', m, eu', p', sym (same x y like) ∙ is, q'))
 
-module _ (K V S : Type 0) (Sort : S → Type 0) (rule : (s : S) → Part K V S Sort (Sort s)) (strip : (Token K V) → (Token K V))
+module _ (K V S : Type 0) (Sort : S → Type 0) (production : (s : S) → Part K V S Sort (Sort s)) (strip : (Token K V) → (Token K V))
     (NearFace : V → V → Type 0) (Near : (s : S) → Sort s → Sort s → Type 0) where
   -- made in the same way of faces and trees that are near each other
   abbrev pub Like : {A : Type 0} → Part K V S Sort A → A → A → Type 0
-  Like (g.mark f) x y = NearFace x y
-  Like (g.sym s) x y = Near s x y
+  Like (g.terminal f) x y = NearFace x y
+  Like (g.nonterminal s) x y = Near s x y
   Like (g.both a b) x y = Like a x.0 y.0 × Like b x.1 y.1
   Like (g.either a b) x y = Like a x y ⊎ Like b x y
   Like (g.maybe a) x y = LikeOption (Like a) x y
@@ -89,8 +89,8 @@ module _ (K V S : Type 0) (Sort : S → Type 0) (rule : (s : S) → Part K V S S
 
   -- the tests of values do not tell them apart
   abbrev pub Steady : {A : Type 0} → Part K V S Sort A → Type 0
-  Steady (g.mark f) = Unit {0}
-  Steady (g.sym s) = Unit {0}
+  Steady (g.terminal f) = Unit {0}
+  Steady (g.nonterminal s) = Unit {0}
   Steady (g.both a b) = Steady a × Steady b
   Steady (g.either a b) = Steady a × Steady b
   Steady (g.maybe a) = Steady a
@@ -103,7 +103,7 @@ module _ (K V S : Type 0) (Sort : S → Type 0) (rule : (s : S) → Part K V S S
   Steady (g.gives f a) = Steady a
 
   abbrev Dv : ((s : S) → ℕ → ℕ → ℕ → ℕ → List (Token K V) → Sort s → Type 0) → {A : Type 0} → Part K V S Sort A → ℕ → ℕ → ℕ → ℕ → List (Token K V) → A → Type 0
-  Dv D a d l c e u x = Derives_by K V S Sort rule D a d l c e u x
+  Dv D a d l c e u x = Derives_by K V S Sort production D a d l c e u x
 
   -- tokens that are alike have one sight, and faces that are near each other
   module _ (token_near : (t t' : Token K V) → strip t ≡ strip t' → (t.sight ≡ t'.sight) × NearFace t.face t'.face) where
@@ -112,11 +112,11 @@ module _ (K V S : Type 0) (Sort : S → Type 0) (rule : (s : S) → Part K V S S
 
     follow_by : (D : (s : S) → ℕ → ℕ → ℕ → ℕ → List (Token K V) → Sort s → Type 0) → ((s : S) (d l : ℕ) → Follows strip (Near s) (D s d l))
         → {A : Type 0} (a : Part K V S Sort A) → Steady a → (d l : ℕ) → Follows strip (Like a) (Dv D a d l)
-    follow_by D k (g.mark f) st d l c e u u' x h (t, eu, is, ex, ec) =
+    follow_by D k (g.terminal f) st d l c e u u' x h (t, eu, is, ex, ec) =
         let (t', eu', same) = one_same strip t u' (ap (map strip) (sym eu) ∙ h) in
         let near = token_near t t' same in
         (t'.face, subst (λ x. NearFace x t'.face) (sym ex) near.1, (t', eu', ap f (sym near.0) ∙ is, refl, ec))
-    follow_by D k (g.sym s) st d l c e u u' x h p = k s d l c e u u' x h p
+    follow_by D k (g.nonterminal s) st d l c e u u' x h p = k s d l c e u u' x h p
     follow_by D k (g.both a b) st d l c e u u' x h (v, w, m, eu, p, q) =
         let (v', w', eu', hv, hw) = split strip v w u' (ap (map strip) (sym eu) ∙ h) in
         let (y, like, p') = follow_by D k a st.0 d l c m v v' x.0 hv p in
@@ -137,13 +137,13 @@ module _ (K V S : Type 0) (Sort : S → Type 0) (rule : (s : S) → Part K V S S
     follow_by D k (g.limited a) st d l c e u u' x h (m, p, ec) = let (y, like, p') = follow_by D k a st d l l m u u' x h p in (y, like, (m, p', ec))
     follow_by D k (g.gives f a) st d l c e u u' y h (x, p, ey) = let (x', like, p') = follow_by D k a st d l c e u u' x h p in (f x', (x, x', like, ey, refl), (x', p', refl))
 
-    module _ (steady : (s : S) → Steady (rule s)) (near_rule : (s : S) (x y : Sort s) → Like (rule s) x y → Near s x y) where
-      follow_n : (n : ℕ) (s : S) (d l : ℕ) → Follows strip (Near s) (Derives K V S Sort rule n s d l)
+    module _ (steady : (s : S) → Steady (production s)) (near_rule : (s : S) (x y : Sort s) → Like (production s) x y → Near s x y) where
+      follow_n : (n : ℕ) (s : S) (d l : ℕ) → Follows strip (Near s) (Derives K V S Sort production n s d l)
       follow_n zero s d l c e u u' x h p = elim p [ ]
       follow_n (suc n) s d l c e u u' x h p =
-          let (y, like, p') = follow_by (Derives K V S Sort rule n) (follow_n n) (rule s) (steady s) d l c e u u' x h p in (y, near_rule s x y like, p')
+          let (y, like, p') = follow_by (Derives K V S Sort production n) (follow_n n) (production s) (steady s) d l c e u u' x h p in (y, near_rule s x y like, p')
 
-      -- a run that is alike is a text as well, of a value that is near
-      pub spelt_near : (s : S) (room : Room) (u u' : List (Token K V)) (x : Sort s) → map strip u ≡ map strip u' → Spells K V S Sort rule s room u x → (y : Sort s) × Near s x y × Spells K V S Sort rule s room u' y
-      spelt_near s room u u' x h (n, e, p) =
-          let (y, like, p') = follow_n n s room.brackets room.limit room.left e u u' x h p in (y, like, (n, e, p'))
+      -- a run that is alike is a sentence as well, of a value that is near
+      pub spelt_near : (s : S) (budget : Budget) (u u' : List (Token K V)) (x : Sort s) → map strip u ≡ map strip u' → Spells K V S Sort production s budget u x → (y : Sort s) × Near s x y × Spells K V S Sort production s budget u' y
+      spelt_near s budget u u' x h (n, e, p) =
+          let (y, like, p') = follow_n n s budget.brackets budget.limit budget.left e u u' x h p in (y, like, (n, e, p'))

@@ -1,6 +1,6 @@
--- Tokens that no mark of a grammar takes.
+-- Tokens that no terminal of a grammar takes.
 use Rattle.std.specs.Prelude.{◌≡◌, Bool, true, false, List, [], ◌∷◌}
-use Rattle.sw_grammar.specs.Grammar.{Token, Part, mark, sym, both, either, maybe, many, then_if, when, nest, counts, limited, gives}
+use Rattle.sw_grammar.specs.Grammar.{Token, Part, terminal, nonterminal, both, either, maybe, many, then_if, when, nest, counts, limited, gives}
 use Rattle.sw_grammar.specs.Deciding.{Apart}
 
 -- no token of the run passes the test
@@ -9,10 +9,10 @@ Free f [] = Unit {0}
 Free f (t ∷ u) = (f t.sight ≡ false) × Free f u
 
 module _ (K V S : Type 0) (Sort : S → Type 0) (f : K → Bool) (clean : S → Bool) where
-  -- no mark in it takes a token that passes the test, and of symbols it calls only clean ones
+  -- no terminal in it takes a token that passes the test, and of nonterminals it calls only clean ones
   abbrev pub Avoids : {A : Type 0} → Part K V S Sort A → Type 0
-  Avoids (mark h) = Apart h f
-  Avoids (sym s) = clean s ≡ true
+  Avoids (terminal h) = Apart h f
+  Avoids (nonterminal s) = clean s ≡ true
   Avoids (both a b) = Avoids a × Avoids b
   Avoids (either a b) = Avoids a × Avoids b
   Avoids (maybe a) = Avoids a

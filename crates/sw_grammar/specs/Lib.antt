@@ -1,5 +1,6 @@
 -- The words of the theory: grammars, the reader, when one token ahead decides, and what the answers say.
-pub mod Answers
+pub mod ReaderAnswers
+pub mod Arriving
 pub mod Avoiding
 pub mod Checking
 pub mod Deciding

@@ -1,25 +1,25 @@
 -- The reading of a grammar from the left, by the next token.
 use Rattle.std.specs.Prelude.{ℕ, zero, suc, ◌+◌, ◌*◌, Bool, true, false, ◌||◌, ◌&&◌, cond, List, [], ◌∷◌, length, Option, Some, None}
-use Rattle.sw_grammar.specs.Grammar.{Token, Part, mark, sym, both, either, maybe, many, then_if, when, nest, counts, limited, gives}
+use Rattle.sw_grammar.specs.Grammar.{Token, Part, terminal, nonterminal, both, either, maybe, many, then_if, when, nest, counts, limited, gives}
 
 -- why a token is refused
-pub data Why : Type 0 where
-  -- there is no room: a bracket, or a part that is counted, would be one too many
-  full : Why
-  -- it goes on with no text, or there is none
-  stuck : Why
+pub data Reason : Type 0 where
+  -- the budget is exceeded: a bracket, or a part that is counted, would be one too many
+  over_budget : Reason
+  -- it goes on with no sentence, or there is none
+  unexpected : Reason
 
 -- What a reader answers: a value, how many more may be counted, and the tokens after it; or the tokens from the refused one on.
 pub data Out (T A : Type 0) : Type 0 where
   got : A → ℕ → List T → Out T A
-  bad : Why → List T → Out T A
-  spent : Out T A
+  rejected : Reason → List T → Out T A
+  out_of_fuel : Out T A
 
 infixl 10 ◌>>=◌
 abbrev pub ◌>>=◌ : {T A B : Type 0} → Out T A → (A → ℕ → List T → Out T B) → Out T B
 (got x c rest) >>= f = f x c rest
-(bad why rest) >>= f = bad why rest
-spent >>= f = spent
+(rejected reason rest) >>= f = rejected reason rest
+out_of_fuel >>= f = out_of_fuel
 
 -- the first token passes the test
 abbrev pub at_first : {K V : Type 0} → (K → Bool) → List (Token K V) → Bool
@@ -32,12 +32,12 @@ or_if true x y = x || y
 or_if false x y = x
 
 abbrev pub one : {K V : Type 0} → (K → Bool) → ℕ → List (Token K V) → Out (Token K V) V
-one f c [] = bad stuck []
-one f c (t ∷ ts) = cond (f t.sight) (got t.face c ts) (bad stuck (t ∷ ts))
+one f c [] = rejected unexpected []
+one f c (t ∷ ts) = cond (f t.sight) (got t.face c ts) (rejected unexpected (t ∷ ts))
 
--- a part for which there is no room
-abbrev pub no_room : {K V A : Type 0} → (K → Bool) → List (Token K V) → Out (Token K V) A
-no_room f ts = cond (at_first f ts) (bad full ts) (bad stuck ts)
+-- a part for which no budget is left
+abbrev pub without_budget : {K V A : Type 0} → (K → Bool) → List (Token K V) → Out (Token K V) A
+without_budget f ts = cond (at_first f ts) (rejected over_budget ts) (rejected unexpected ts)
 
 -- a second part, where it comes
 abbrev pub if_goes : {T A B : Type 0} → Bool → A → ℕ → List T → Out T B → Out T (A × Option B)
@@ -49,27 +49,27 @@ abbrev pub turns : {K V A : Type 0} → (K → Bool) → (ℕ → List (Token K 
 turns f p zero c ts = got [] c ts
 turns f p (suc k) c ts = cond (at_first f ts) (p c ts >>= (λ x c' rest. turns f p k c' rest >>= (λ xs c'' r. got (x ∷ xs) c'' r))) (got [] c ts)
 
-module _ (K V S : Type 0) (Sort : S → Type 0) (rule : (s : S) → Part K V S Sort (Sort s)) (heads : S → K → Bool) (empties : S → Bool) where
-  -- whether the empty run is a text of it
-  abbrev pub null : {A : Type 0} → Part K V S Sort A → Bool
-  null (mark f) = false
-  null (sym s) = empties s
-  null (both a b) = null a && null b
-  null (either a b) = null a || null b
-  null (maybe a) = true
-  null (many a) = true
-  null (then_if a goes b) = null a
-  null (when f a) = null a
-  null (nest a) = null a
-  null (counts a) = null a
-  null (limited a) = null a
-  null (gives f a) = null a
+module _ (K V S : Type 0) (Sort : S → Type 0) (production : (s : S) → Part K V S Sort (Sort s)) (first_table : S → K → Bool) (nullable_table : S → Bool) where
+  -- nullable: whether the empty run is a sentence of it
+  abbrev pub nullable : {A : Type 0} → Part K V S Sort A → Bool
+  nullable (terminal f) = false
+  nullable (nonterminal s) = nullable_table s
+  nullable (both a b) = nullable a && nullable b
+  nullable (either a b) = nullable a || nullable b
+  nullable (maybe a) = true
+  nullable (many a) = true
+  nullable (then_if a goes b) = nullable a
+  nullable (when f a) = nullable a
+  nullable (nest a) = nullable a
+  nullable (counts a) = nullable a
+  nullable (limited a) = nullable a
+  nullable (gives f a) = nullable a
 
-  -- the tokens that a text of it begins with
+  -- first: the tokens that a sentence of it begins with
   abbrev pub first : {A : Type 0} → Part K V S Sort A → K → Bool
-  first (mark f) t = f t
-  first (sym s) t = heads s t
-  first (both a b) t = or_if (null a) (first a t) (first b t)
+  first (terminal f) t = f t
+  first (nonterminal s) t = first_table s t
+  first (both a b) t = or_if (nullable a) (first a t) (first b t)
   first (either a b) t = first a t || first b t
   first (maybe a) t = first a t
   first (many a) t = first a t
@@ -82,26 +82,26 @@ module _ (K V S : Type 0) (Sort : S → Type 0) (rule : (s : S) → Part K V S S
 
   -- d brackets may be opened, a count of its own may hold l, and c more may be counted
   abbrev pub read_by : ((s : S) → ℕ → ℕ → ℕ → List (Token K V) → Out (Token K V) (Sort s)) → {A : Type 0} → Part K V S Sort A → ℕ → ℕ → ℕ → List (Token K V) → Out (Token K V) A
-  read_by R (mark f) d l c ts = one f c ts
-  read_by R (sym s) d l c ts = R s d l c ts
+  read_by R (terminal f) d l c ts = one f c ts
+  read_by R (nonterminal s) d l c ts = R s d l c ts
   read_by R (both a b) d l c ts = read_by R a d l c ts >>= (λ x c' rest. read_by R b d l c' rest >>= (λ y c'' r. got (x, y) c'' r))
   read_by R (either a b) d l c ts = cond (at_first (first a) ts) (read_by R a d l c ts) (read_by R b d l c ts)
   read_by R (maybe a) d l c ts = cond (at_first (first a) ts) (read_by R a d l c ts >>= (λ x c' rest. got (Some x) c' rest)) (got None c ts)
   read_by R (many a) d l c ts = turns (first a) (read_by R a d l) (length ts) c ts
   read_by R (then_if a goes b) d l c ts = read_by R a d l c ts >>= (λ x c' rest. if_goes (goes x && at_first (first b) rest) x c' rest (read_by R b d l c' rest))
-  read_by R (when f a) d l c ts = cond (at_first f ts) (read_by R a d l c ts) (bad stuck ts)
-  read_by R (nest a) zero l c ts = no_room (first a) ts
+  read_by R (when f a) d l c ts = cond (at_first f ts) (read_by R a d l c ts) (rejected unexpected ts)
+  read_by R (nest a) zero l c ts = without_budget (first a) ts
   read_by R (nest a) (suc d) l c ts = read_by R a d l c ts
-  read_by R (counts a) d l zero ts = no_room (first a) ts
+  read_by R (counts a) d l zero ts = without_budget (first a) ts
   read_by R (counts a) d l (suc c) ts = read_by R a d l c ts
   read_by R (limited a) d l c ts = read_by R a d l l ts >>= (λ x _ rest. got x c rest)
   read_by R (gives f a) d l c ts = read_by R a d l c ts >>= (λ x c' rest. got (f x) c' rest)
 
   abbrev pub read : ℕ → (s : S) → ℕ → ℕ → ℕ → List (Token K V) → Out (Token K V) (Sort s)
-  read zero s d l c ts = spent
-  read (suc n) s d l c ts = read_by (read n) (rule s) d l c ts
+  read zero s d l c ts = out_of_fuel
+  read (suc n) s d l c ts = read_by (read n) (production s) d l c ts
 
-  -- read to its end: a symbol calls only symbols of lower rank before it takes a token
+  -- read to its end: a nonterminal calls only nonterminals of lower rank before it takes a token
   module _ (rank : S → ℕ) (width : ℕ) where
     unfoldable pub reads : (s : S) → ℕ → ℕ → ℕ → List (Token K V) → Out (Token K V) (Sort s)
     reads s d l c ts = read (suc (rank s + width * length ts)) s d l c ts

@@ -24,7 +24,7 @@ pub struct FuncCode {
     pub result: Ty,
     /// The types of the func's variables, in the order in which they are declared.
     pub variables: Items<Ty>,
-    /// What the func does, from its first place on.
+    /// What the func does. An instruction's address is its index.
     pub instrs: Items<Instr>,
     /// Before each instruction, what the operands are.
     pub shapes: Items<Shape>,
@@ -50,7 +50,7 @@ impl Model for Code {
 }
 
 impl Code {
-    ghost use Rattle.sw_job.specs.Typed.{IsTyped, NeverStuck, EachStepIsSafe, EachStartBegins};
+    ghost use Rattle.sw_job.specs.Typed.{IsTyped, NeverStuck, EachStepIsSafe, EachEntryIsSafe};
 
     /// The code of these funcs, whose operand types agree.
     pub fn new(funcs: Items<FuncCode>) -> Code
@@ -69,12 +69,12 @@ impl Code {
         self.funcs().get(func.0 as usize)
     }
 
-    /// The code of all funcs, with what holds of typed code: a turn begins from each start that is typed
+    /// The code of all funcs, with what holds of typed code: a turn is entered safely from each start that is typed
     /// for it, each step of the turn is safe, and none is stuck.
     pub fn funcs(&self) -> &[FuncCode]
         ensures value { result.now ≡ self.now }
         ensures typed { IsTyped self.now }
-        ensures starts { EachStartBegins self.now }
+        ensures entries { EachEntryIsSafe self.now }
         ensures steps { EachStepIsSafe self.now }
         ensures never_stuck { NeverStuck self.now }
     {

@@ -5,8 +5,8 @@ use sw_base::Text;
 /// One instruction. What it takes are the newest operands of its frame, what it gives becomes the newest.
 #[derive(Debug, PartialEq, Drop)]
 pub enum Instr {
-    /// A statement begins here. Where no more may begin in this turn, the turn ends just before it.
-    Begin,
+    /// Begins a statement. Where no more may begin in this turn, the turn ends just before it.
+    BeginStmt,
     /// Gives an integer.
     PushInt(i64),
     /// Gives a string.

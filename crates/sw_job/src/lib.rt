@@ -1,4 +1,4 @@
-//! What a job is made of: the code of funcs with the operand types at each place, and what a turn of a
+//! What a job is made of: the code of funcs with the operand types before each instruction, and what a turn of a
 //! job starts from and ends with.
 #![tactic(auto)]
 

@@ -3,7 +3,7 @@
 use crate::value::{TrapKind, Value};
 use sw_base::{Duplicate, FuncNo, NoMemory, Stack, Text};
 
-/// What a frame holds.
+/// One of the things that a frame holds.
 #[derive(Debug, PartialEq, Drop)]
 pub enum Operand {
     /// A value that was evaluated.
@@ -23,9 +23,9 @@ impl Duplicate for Operand {
 pub struct Frame {
     /// Which func it is.
     pub func: FuncNo,
-    /// The place of its next instruction.
-    pub place: usize,
-    /// What it holds.
+    /// The address of its next instruction.
+    pub address: usize,
+    /// What it holds, the newest first: its variables, and parts that were evaluated.
     pub operands: Stack<Operand>,
 }
 
@@ -33,7 +33,7 @@ impl Duplicate for Frame {
     fn copy(&self) -> Result<Frame, NoMemory> {
         Ok(Frame {
             func: self.func,
-            place: self.place,
+            address: self.address,
             operands: self.operands.copy()?,
         })
     }

@@ -10,7 +10,7 @@ use Rattle.std.specs.Str.{IsUtf8}
 use lib.Utf8.{scalar, scalars, encode, encodes}
 use mathlib.Core.Logic.{inl, inr}
 use Rattle.sw_lex.specs.Bytes.{Text}
-use Rattle.sw_lex.specs.Forms.{IsString, has_three_quotes}
+use Rattle.sw_lex.specs.Lexemes.{IsString, has_three_quotes}
 use Rattle.sw_lex.specs.Strings.{Part, IsPiece, ArePieces, bytes_of, text_of, is_plain, is_escape, escaped}
 use Rattle.sw_lex.specs.Tokens.{StandFor}
 use Rattle.sw_layout.specs.Words.{escape, escapes}
@@ -48,22 +48,22 @@ escape_is P byte line return tabbed null quoted slashed plain =
     either false true e f h = slashed (equal byte 92 f)
     either false false e f h = absurd (cc)
 
-letter_piece : (good byte letter : ℕ) → is_escape letter ≡ true → byte ≡ escaped letter → IsPiece good (92 ∷ letter ∷ []) (byte ∷ [])
-letter_piece good byte letter known e = inr (inl (letter, refl, ap (λ b. b ∷ []) e, known))
+letter_piece : (valid byte letter : ℕ) → is_escape letter ≡ true → byte ≡ escaped letter → IsPiece valid (92 ∷ letter ∷ []) (byte ∷ [])
+letter_piece valid byte letter known e = inr (inl (letter, refl, ap (λ b. b ∷ []) e, known))
 
-plain_is : (good byte : ℕ) → 1 ≤ good → (byte == 10) ≡ false → (byte == 13) ≡ false → (byte == 34) ≡ false → (byte == 92) ≡ false → is_plain good byte ≡ true
-plain_is good byte some a b c d = grind (arith, common_steps)
+plain_is : (valid byte : ℕ) → 1 ≤ valid → (byte == 10) ≡ false → (byte == 13) ≡ false → (byte == 34) ≡ false → (byte == 92) ≡ false → is_plain valid byte ≡ true
+plain_is valid byte some a b c d = grind (arith, common_steps)
 
-one_piece : (good byte : ℕ) → 1 ≤ good → IsPiece good (escape byte) (byte ∷ [])
-one_piece good byte some =
-    escape_is (λ u. IsPiece good u (byte ∷ [])) byte
-    (letter_piece good byte 110 refl)
-    (letter_piece good byte 114 refl)
-    (letter_piece good byte 116 refl)
-    (letter_piece good byte 48 refl)
-    (λ e. letter_piece good byte byte (ap is_escape e) (e ∙ sym (ap escaped e)))
-    (λ e. letter_piece good byte byte (ap is_escape e) (e ∙ sym (ap escaped e)))
-    (λ line return quote slash. inl (byte, refl, refl, plain_is good byte some line return quote slash))
+one_piece : (valid byte : ℕ) → 1 ≤ valid → IsPiece valid (escape byte) (byte ∷ [])
+one_piece valid byte some =
+    escape_is (λ u. IsPiece valid u (byte ∷ [])) byte
+    (letter_piece valid byte 110 refl)
+    (letter_piece valid byte 114 refl)
+    (letter_piece valid byte 116 refl)
+    (letter_piece valid byte 48 refl)
+    (λ e. letter_piece valid byte byte (ap is_escape e) (e ∙ sym (ap escaped e)))
+    (λ e. letter_piece valid byte byte (ap is_escape e) (e ∙ sym (ap escaped e)))
+    (λ line return quote slash. inl (byte, refl, refl, plain_is valid byte some line return quote slash))
 
 escape_some : (byte : ℕ) → 1 ≤ length (escape byte)
 escape_some byte = escape_is (λ u. 1 ≤ length u) byte (λ _. omega arith) (λ _. omega arith) (λ _. omega arith) (λ _. omega arith) (λ _. omega arith) (λ _. omega arith) (λ a b c d. omega arith)
@@ -82,33 +82,33 @@ parts_text : (text : Text) → text_of (parts_of text) ≡ text
 parts_text [] = refl
 parts_text (byte ∷ text) = ap (λ u. byte ∷ u) (parts_text text)
 
-pub are_pieces : (good : ℕ) (text : Text) → length (escapes text) ≤ good → ArePieces good (parts_of text)
-are_pieces good [] h = tt
-are_pieces good (byte ∷ text) h =
+pub are_pieces : (valid : ℕ) (text : Text) → length (escapes text) ≤ valid → ArePieces valid (parts_of text)
+are_pieces valid [] h = tt
+are_pieces valid (byte ∷ text) h =
     let len = length-append (escape byte) (escapes text) in
     let some = escape_some byte in
-    (one_piece good byte (omega (arith, h, len, some)), are_pieces (good - length (escape byte)) text (omega (arith, h, len)))
+    (one_piece valid byte (omega (arith, h, len, some)), are_pieces (valid - length (escape byte)) text (omega (arith, h, len)))
 
 -- a string with these pieces
-pub string_form : (mark good : ℕ) (closing text rest : Text) → length (escapes text) ≤ good - 1 → IsString mark closing good ((mark ∷ (escapes text ++ closing)) ++ rest) (length (mark ∷ (escapes text ++ closing)))
-string_form mark good closing text rest h = (
+pub string_form : (mark valid : ℕ) (closing text rest : Text) → length (escapes text) ≤ valid - 1 → IsString mark closing valid ((mark ∷ (escapes text ++ closing)) ++ rest) (length (mark ∷ (escapes text ++ closing)))
+string_form mark valid closing text rest h = (
   parts_of text,
   rest,
   ap (λ (u : Text). mark ∷ u) (append_assoc (escapes text) closing rest ∙ ap (λ (u : Text). u ++ (closing ++ rest)) (sym (parts_bytes text))),
-  are_pieces (good - 1) text h,
+  are_pieces (valid - 1) text h,
   omega (arith, length-append (escapes text) closing, ap length (parts_bytes text)),
 )
 
 -- they stand for the text
-pub stands_for : (mark good : ℕ) (closing text : Text) → length (escapes text) ≤ good - 1 → StandFor mark closing good (mark ∷ (escapes text ++ closing)) text
-stands_for mark good closing text h = (
+pub stands_for : (mark valid : ℕ) (closing text : Text) → length (escapes text) ≤ valid - 1 → StandFor mark closing valid (mark ∷ (escapes text ++ closing)) text
+stands_for mark valid closing text h = (
   parts_of text,
   ap (λ (u : Text). mark ∷ (u ++ closing)) (sym (parts_bytes text)),
-  are_pieces (good - 1) text h,
+  are_pieces (valid - 1) text h,
   sym (parts_text text),
 )
 
--- no second quote stands behind the first where some byte is written
+-- no second quote follows the first where some byte is written
 pub no_quotes : (byte : ℕ) (text closing rest : Text) → has_three_quotes ((34 ∷ (escapes (byte ∷ text) ++ closing)) ++ rest) ≡ false
 no_quotes byte text closing rest =
     escape_is (λ u. has_three_quotes ((34 ∷ ((u ++ escapes text) ++ closing)) ++ rest) ≡ false) byte
@@ -125,11 +125,11 @@ no_quotes byte text closing rest =
 abbrev pub has_no_line : Text → Bool
 has_no_line text = list_all (λ byte. not (byte == 10)) text
 
-pub no_line_append : (front back : Text) → has_no_line front ≡ true → has_no_line back ≡ true → has_no_line (front ++ back) ≡ true
+pub no_line_append : (prefix back : Text) → has_no_line prefix ≡ true → has_no_line back ≡ true → has_no_line (prefix ++ back) ≡ true
 no_line_append [] back h g = g
-no_line_append (byte ∷ front) back h g =
-    let two = both (not (byte == 10)) (has_no_line front) h in
-    ap (λ t. t && has_no_line (front ++ back)) two.0 ∙ no_line_append front back two.1 g
+no_line_append (byte ∷ prefix) back h g =
+    let two = both (not (byte == 10)) (has_no_line prefix) h in
+    ap (λ t. t && has_no_line (prefix ++ back)) two.0 ∙ no_line_append prefix back two.1 g
 
 escape_no_line : (byte : ℕ) → has_no_line (escape byte) ≡ true
 escape_no_line byte =
@@ -179,9 +179,9 @@ escape_high byte high =
     (λ e. absurd (omega arith))
     (λ a b c d. refl)
 
-escapes_append : (front back : Text) → escapes (front ++ back) ≡ escapes front ++ escapes back
+escapes_append : (prefix back : Text) → escapes (prefix ++ back) ≡ escapes prefix ++ escapes back
 escapes_append [] back = refl
-escapes_append (byte ∷ front) back = ap (λ u. escape byte ++ u) (escapes_append front back) ∙ sym (append_assoc (escape byte) (escapes front) (escapes back))
+escapes_append (byte ∷ prefix) back = ap (λ u. escape byte ++ u) (escapes_append prefix back) ∙ sym (append_assoc (escape byte) (escapes prefix) (escapes back))
 
 escapes_high : (text : Text) → ((i : ℕ) → i < length text → 128 ≤ get_or text i 0) → escapes text ≡ text
 escapes_high [] h = refl

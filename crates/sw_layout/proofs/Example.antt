@@ -1,4 +1,4 @@
--- A row of words by hand, with an escape, and a string that goes on behind an expression; and its text.
+-- A list of words by hand, with an escape, and a string that goes on after an expression; and its text.
 use Rattle.std.proofs.Common.{◌≡◌, ◌≢◌, true, false, List, [], ◌∷◌, refl, arith}
 use Rattle.std.specs.Prelude.{codes}
 use mathlib.Core.Logic.{inl, inr}
@@ -7,15 +7,15 @@ use Rattle.sw_lex.specs.Tables.{words}
 use Rattle.sw_layout.specs.declared.gap.Gap.{Gap}
 use Rattle.sw_layout.specs.declared.gap.Gap.TheVariants as gap
 use Rattle.sw_layout.specs.Words.{Word, page_text, plain}
-use Rattle.sw_layout.specs.Rows.{IsRow}
+use Rattle.sw_layout.specs.Layouts.{IsLaidOut}
 use Rattle.sw_layout.proofs.Escaping.{low_utf8}
 use Rattle.sw_layout.proofs.FixedWords.{fixed_fits}
 
 abbrev named : Gap → Word
 named before = record { kind = k.Name; text = codes "x"; gap = before }
 
-abbrev row : List Word
-row =
+abbrev layout : List Word
+layout =
     named gap.Start
     ∷ plain k.Assign gap.Space
     ∷ plain k.Minus gap.Space
@@ -26,16 +26,16 @@ row =
     ∷ record { kind = k.StringLast; text = []; gap = gap.Joined }
     ∷ []
 
-row_text_is : page_text row ≡ codes "x = -1_0\nreturn \"a\\n\\(x)\"\n"
-row_text_is = refl
+layout_text_is : page_text layout ≡ codes "x = -1_0\nreturn \"a\\n\\(x)\"\n"
+layout_text_is = refl
 
 -- no string is open
 none_open : (g : Gap) → false ≡ true → g ≢ gap.Line
 none_open g e = absurd (cc)
 
-row_is : IsRow row
+layout_is : IsLaidOut layout
 unfolding words
-row_is = (
+layout_is = (
   inl (refl, refl, refl),
   refl,
   (none_open gap.Start, λ e. absurd (cc), λ e. refl),

@@ -6,7 +6,7 @@ use Rattle.sw_lex.specs.declared.token.TokenKind.TheVariants as k
 use Rattle.sw_lex.specs.Bytes.{Text}
 use Rattle.sw_lex.specs.Tables.{Table, words, marks, IsListed}
 use Rattle.sw_layout.specs.Words.{fixed}
-use Rattle.sw_layout.specs.Rows.{Fits}
+use Rattle.sw_layout.specs.Layouts.{Fits}
 
 -- the entry of a table by its place
 abbrev entry_at : ℕ → Table → Option (Text × TokenKind)

@@ -12,19 +12,19 @@ use Rattle.sw_lex.specs.declared.bytes.Class.TheVariants as class
 use Rattle.sw_lex.specs.declared.token.TokenKind.{TokenKind}
 use Rattle.sw_lex.specs.declared.token.TokenKind.TheVariants as k
 use Rattle.sw_lex.specs.declared.token.Token.{Token as SourceToken}
-use Rattle.sw_lex.specs.declared.forms.Begin.{Begin}
-use Rattle.sw_lex.specs.declared.forms.Begin.TheVariants.{End, Gap, Token, Formless, Unclosed}
-use Rattle.sw_lex.specs.declared.telling.Here.{Here}
+use Rattle.sw_lex.specs.declared.lexemes.Lexeme.{Lexeme}
+use Rattle.sw_lex.specs.declared.lexemes.Lexeme.TheVariants.{End, Gap, Token, Malformed, Unterminated}
+use Rattle.sw_lex.specs.declared.emit.Here.{Here}
 use Rattle.sw_lex.specs.Bytes.{Text, is_in}
 use Rattle.sw_lex.specs.Tables.{Table, words, marks, kind_in, kind_of_word, is_same_text, IsListed}
 use Rattle.sw_lex.specs.Strings.{bytes_of}
-use Rattle.sw_lex.specs.Forms.{HasForm, IsWord as BeginsWord, IsMark}
-use Rattle.sw_lex.specs.Cut.{Opens, Cut, after, closes, is_inside, IsGood}
+use Rattle.sw_lex.specs.Lexemes.{HasForm, IsWord as BeginsWord, IsMark}
+use Rattle.sw_lex.specs.Cut.{Opens, Cut, after, closes, is_inside, IsValidPrefix}
 use Rattle.sw_lex.specs.Rules.{BreaksNone}
-use Rattle.sw_lex.specs.Tokens.{StandFor, IsTextOf, beyond, AreTokens, end_place, place_at, start, CutsInto}
-use Rattle.sw_layout.specs.Rows.{IsWord, IsDigits, Fits}
+use Rattle.sw_lex.specs.Tokens.{StandFor, IsTextOf, here_after, AreTokens, end_place, place_at, start, CutsInto}
+use Rattle.sw_layout.specs.Layouts.{IsWord, IsDigits, Fits}
 use Rattle.sw_layout.specs.Lexed.{AreFit}
-use Rattle.sw_layout.proofs.Utf8.{rest_utf8, front_utf8, low_utf8, text_utf8}
+use Rattle.sw_layout.proofs.Utf8.{rest_utf8, prefix_utf8, low_utf8, text_utf8}
 
 -- ---- kinds
 
@@ -46,13 +46,13 @@ plain_fits k.StringLast text e h = absurd (cc)
 plain_fits kind text e h = h
 
 -- the text of what is no string is its bytes
-plain_text : (kind : TokenKind) (good : ℕ) (bytes text : Text) → is_other kind ≡ false → IsTextOf kind good bytes text → text ≡ bytes
-plain_text k.Integer good bytes text e h = h
-plain_text k.StringWhole good bytes text e h = absurd (cc)
-plain_text k.StringStart good bytes text e h = absurd (cc)
-plain_text k.StringMiddle good bytes text e h = absurd (cc)
-plain_text k.StringLast good bytes text e h = absurd (cc)
-plain_text kind good bytes text e h = h
+plain_text : (kind : TokenKind) (valid : ℕ) (bytes text : Text) → is_other kind ≡ false → IsTextOf kind valid bytes text → text ≡ bytes
+plain_text k.Integer valid bytes text e h = h
+plain_text k.StringWhole valid bytes text e h = absurd (cc)
+plain_text k.StringStart valid bytes text e h = absurd (cc)
+plain_text k.StringMiddle valid bytes text e h = absurd (cc)
+plain_text k.StringLast valid bytes text e h = absurd (cc)
+plain_text kind valid bytes text e h = h
 
 -- no entry of the table is one of these
 abbrev ours : Table → Bool
@@ -134,60 +134,60 @@ mark_fits closing bytes kind size (text, listed, begins, e, _, _, _, _) =
 -- ---- strings
 
 -- what stands between two bytes of ASCII in a text of characters is one
-string_fits : (front bytes more text : Text) (mark close good size : ℕ) → mark < 128 → close < 128 → IsUtf8 (front ++ bytes) → StandFor mark (close ∷ more) good (take size bytes) text → IsUtf8 text
-string_fits front bytes more text mark close good size low low' u (parts, e, are, t) =
+string_fits : (prefix bytes more text : Text) (mark close valid size : ℕ) → mark < 128 → close < 128 → IsUtf8 (prefix ++ bytes) → StandFor mark (close ∷ more) valid (take size bytes) text → IsUtf8 text
+string_fits prefix bytes more text mark close valid size low low' u (parts, e, are, t) =
     let cut : bytes ≡ mark ∷ (bytes_of parts ++ (close ∷ (more ++ drop size bytes))) =
     sym (take-append-drop size bytes) ∙ ap (λ l. l ++ drop size bytes) e ∙ ap (λ l. mark ∷ l) (append_assoc (bytes_of parts) (close ∷ more) (drop size bytes)) in
-    let whole : IsUtf8 (front ++ mark ∷ (bytes_of parts ++ (close ∷ (more ++ drop size bytes)))) = subst (λ (l : Text). IsUtf8 (front ++ l)) cut u in
-    let here = rest_utf8 front (mark ∷ (bytes_of parts ++ (close ∷ (more ++ drop size bytes)))) (front_utf8 front (bytes_of parts ++ (close ∷ (more ++ drop size bytes))) mark low whole) whole in
+    let whole : IsUtf8 (prefix ++ mark ∷ (bytes_of parts ++ (close ∷ (more ++ drop size bytes)))) = subst (λ (l : Text). IsUtf8 (prefix ++ l)) cut u in
+    let here = rest_utf8 prefix (mark ∷ (bytes_of parts ++ (close ∷ (more ++ drop size bytes)))) (prefix_utf8 prefix (bytes_of parts ++ (close ∷ (more ++ drop size bytes))) mark low whole) whole in
     let inner = rest_utf8 (mark ∷ []) (bytes_of parts ++ (close ∷ (more ++ drop size bytes))) (low_utf8 (mark ∷ []) (low, tt)) here in
-    subst IsUtf8 (sym t) (text_utf8 (good - 1) [] parts are (front_utf8 (bytes_of parts) (more ++ drop size bytes) close low' inner))
+    subst IsUtf8 (sym t) (text_utf8 (valid - 1) [] parts are (prefix_utf8 (bytes_of parts) (more ++ drop size bytes) close low' inner))
 
 -- ---- tokens
 
-token_fits : (front bytes text : Text) (inside closing : Bool) (kind : TokenKind) (good size : ℕ) → IsUtf8 (front ++ bytes) → HasForm inside closing good bytes (Token kind size) → IsTextOf kind good (take size bytes) text → Fits kind text
-token_fits front bytes text inside closing kind good size u (inl h) is =
+token_fits : (prefix bytes text : Text) (inside closing : Bool) (kind : TokenKind) (valid size : ℕ) → IsUtf8 (prefix ++ bytes) → HasForm inside closing valid bytes (Token kind size) → IsTextOf kind valid (take size bytes) text → Fits kind text
+token_fits prefix bytes text inside closing kind valid size u (inl h) is =
     let kept : is_other kind ≡ false = ap is_other h.2 ∙ kind_ours words (take size bytes) words_ours in
-    plain_fits kind text kept (inl (subst (IsWord kind) (sym (plain_text kind good (take size bytes) text kept is)) (word_fits bytes kind size h)))
-token_fits front bytes text inside closing kind good size u (inr (inl (first, s, e))) is =
-    subst (λ (k : TokenKind). IsTextOf k good (take size bytes) text → Fits k text) (sym e) (λ is. subst IsDigits (sym is) (digits_fit bytes size first s)) is
-token_fits front bytes text inside closing kind good size u (inr (inr (inl (three, inl (e, h))))) is =
-    subst (λ (k : TokenKind). IsTextOf k good (take size bytes) text → Fits k text) (sym e) (string_fits front bytes [] text 34 34 good size (omega arith) (omega arith) u) is
-token_fits front bytes text inside closing kind good size u (inr (inr (inl (three, inr (e, h))))) is =
-    subst (λ (k : TokenKind). IsTextOf k good (take size bytes) text → Fits k text) (sym e) (string_fits front bytes (40 ∷ []) text 34 92 good size (omega arith) (omega arith) u) is
-token_fits front bytes text inside closing kind good size u (inr (inr (inr (inl (c, inl (e, h)))))) is =
-    subst (λ (k : TokenKind). IsTextOf k good (take size bytes) text → Fits k text) (sym e) (string_fits front bytes [] text 41 34 good size (omega arith) (omega arith) u) is
-token_fits front bytes text inside closing kind good size u (inr (inr (inr (inl (c, inr (e, h)))))) is =
-    subst (λ (k : TokenKind). IsTextOf k good (take size bytes) text → Fits k text) (sym e) (string_fits front bytes (40 ∷ []) text 41 92 good size (omega arith) (omega arith) u) is
-token_fits front bytes text inside closing kind good size u (inr (inr (inr (inr h)))) is =
+    plain_fits kind text kept (inl (subst (IsWord kind) (sym (plain_text kind valid (take size bytes) text kept is)) (word_fits bytes kind size h)))
+token_fits prefix bytes text inside closing kind valid size u (inr (inl (first, s, e))) is =
+    subst (λ (k : TokenKind). IsTextOf k valid (take size bytes) text → Fits k text) (sym e) (λ is. subst IsDigits (sym is) (digits_fit bytes size first s)) is
+token_fits prefix bytes text inside closing kind valid size u (inr (inr (inl (three, inl (e, h))))) is =
+    subst (λ (k : TokenKind). IsTextOf k valid (take size bytes) text → Fits k text) (sym e) (string_fits prefix bytes [] text 34 34 valid size (omega arith) (omega arith) u) is
+token_fits prefix bytes text inside closing kind valid size u (inr (inr (inl (three, inr (e, h))))) is =
+    subst (λ (k : TokenKind). IsTextOf k valid (take size bytes) text → Fits k text) (sym e) (string_fits prefix bytes (40 ∷ []) text 34 92 valid size (omega arith) (omega arith) u) is
+token_fits prefix bytes text inside closing kind valid size u (inr (inr (inr (inl (c, inl (e, h)))))) is =
+    subst (λ (k : TokenKind). IsTextOf k valid (take size bytes) text → Fits k text) (sym e) (string_fits prefix bytes [] text 41 34 valid size (omega arith) (omega arith) u) is
+token_fits prefix bytes text inside closing kind valid size u (inr (inr (inr (inl (c, inr (e, h)))))) is =
+    subst (λ (k : TokenKind). IsTextOf k valid (take size bytes) text → Fits k text) (sym e) (string_fits prefix bytes (40 ∷ []) text 41 92 valid size (omega arith) (omega arith) u) is
+token_fits prefix bytes text inside closing kind valid size u (inr (inr (inr (inr h)))) is =
     let found = mark_fits closing bytes kind size h in
     let kept : is_other kind ≡ false = listed_ours marks (take size bytes) kind marks_ours found in
-    plain_fits kind text kept (inr (subst (λ (l : Text). IsListed marks l kind) (sym (plain_text kind good (take size bytes) text kept is)) found))
+    plain_fits kind text kept (inr (subst (λ (l : Text). IsListed marks l kind) (sym (plain_text kind valid (take size bytes) text kept is)) found))
 
-tokens_fit : (end : Span) (here : Here) (opens : Opens) (good : ℕ) (front bytes : Text) (items : List Begin) (stop : Begin) (tokens : List SourceToken) → IsUtf8 (front ++ bytes) → Cut opens good bytes items stop → AreTokens end here good bytes items tokens → AreFit tokens
-tokens_fit end here opens good front bytes [] stop tokens u h are = subst AreFit (sym are) ((λ n. absurd (n refl)), tt)
-tokens_fit end here opens good front bytes (Token kind size ∷ items) stop tokens u h (text, later, e, is, are) =
+tokens_fit : (end : Span) (here : Here) (opens : Opens) (valid : ℕ) (prefix bytes : Text) (items : List Lexeme) (stop : Lexeme) (tokens : List SourceToken) → IsUtf8 (prefix ++ bytes) → Cut opens valid bytes items stop → AreTokens end here valid bytes items tokens → AreFit tokens
+tokens_fit end here opens valid prefix bytes [] stop tokens u h are = subst AreFit (sym are) ((λ n. absurd (n refl)), tt)
+tokens_fit end here opens valid prefix bytes (Token kind size ∷ items) stop tokens u h (text, later, e, is, are) =
     subst AreFit (sym e) (
-      (λ n. token_fits front bytes text (is_inside opens) (closes opens) kind good size u h.0 is),
-      tokens_fit end (beyond here bytes (Token kind size)) (after opens (Token kind size)) (good - size) (front ++ take size bytes) (drop size bytes) items stop later (moved size u) h.2 are,
+      (λ n. token_fits prefix bytes text (is_inside opens) (closes opens) kind valid size u h.0 is),
+      tokens_fit end (here_after here bytes (Token kind size)) (after opens (Token kind size)) (valid - size) (prefix ++ take size bytes) (drop size bytes) items stop later (moved size u) h.2 are,
     )
   where
-    moved : (n : ℕ) → IsUtf8 (front ++ bytes) → IsUtf8 ((front ++ take n bytes) ++ drop n bytes)
-    moved n u = subst IsUtf8 (ap (λ l. front ++ l) (sym (take-append-drop n bytes)) ∙ sym (append_assoc front (take n bytes) (drop n bytes))) u
-tokens_fit end here opens good front bytes (Gap size ∷ items) stop tokens u h are =
-    tokens_fit end (beyond here bytes (Gap size)) (after opens (Gap size)) (good - size) (front ++ take size bytes) (drop size bytes) items stop tokens (moved size u) h.2 are
+    moved : (n : ℕ) → IsUtf8 (prefix ++ bytes) → IsUtf8 ((prefix ++ take n bytes) ++ drop n bytes)
+    moved n u = subst IsUtf8 (ap (λ l. prefix ++ l) (sym (take-append-drop n bytes)) ∙ sym (append_assoc prefix (take n bytes) (drop n bytes))) u
+tokens_fit end here opens valid prefix bytes (Gap size ∷ items) stop tokens u h are =
+    tokens_fit end (here_after here bytes (Gap size)) (after opens (Gap size)) (valid - size) (prefix ++ take size bytes) (drop size bytes) items stop tokens (moved size u) h.2 are
   where
-    moved : (n : ℕ) → IsUtf8 (front ++ bytes) → IsUtf8 ((front ++ take n bytes) ++ drop n bytes)
-    moved n u = subst IsUtf8 (ap (λ l. front ++ l) (sym (take-append-drop n bytes)) ∙ sym (append_assoc front (take n bytes) (drop n bytes))) u
-tokens_fit end here opens good front bytes (End ∷ items) stop tokens u h are = absurd (omega (arith, h.1))
-tokens_fit end here opens good front bytes (Formless ∷ items) stop tokens u h are = absurd (omega (arith, h.1))
-tokens_fit end here opens good front bytes (Unclosed ∷ items) stop tokens u h are = absurd (omega (arith, h.1))
+    moved : (n : ℕ) → IsUtf8 (prefix ++ bytes) → IsUtf8 ((prefix ++ take n bytes) ++ drop n bytes)
+    moved n u = subst IsUtf8 (ap (λ l. prefix ++ l) (sym (take-append-drop n bytes)) ∙ sym (append_assoc prefix (take n bytes) (drop n bytes))) u
+tokens_fit end here opens valid prefix bytes (End ∷ items) stop tokens u h are = absurd (omega (arith, h.1))
+tokens_fit end here opens valid prefix bytes (Malformed ∷ items) stop tokens u h are = absurd (omega (arith, h.1))
+tokens_fit end here opens valid prefix bytes (Unterminated ∷ items) stop tokens u h are = absurd (omega (arith, h.1))
 
 -- of a source that breaks no rule of tokens
 pub lexed_fit : (source : Text) (tokens : List SourceToken) → CutsInto source tokens → BreaksNone source → AreFit tokens
 lexed_fit source tokens cut none =
-    tokens_fit (end_place source) start [] cut.whole.good [] source cut.whole.items cut.whole.stop tokens (good cut.whole.front) cut.whole.cut cut.same
+    tokens_fit (end_place source) start [] cut.whole.valid [] source cut.whole.items cut.whole.stop tokens (valid cut.whole.prefix) cut.whole.cut cut.same
   where
-    good : IsGood source cut.whole.good → IsUtf8 source
-    good (inl g) = g.1
-    good (inr v) = absurd (none (record { rule = L1; span = place_at source cut.whole.good }) (cut.whole.good, v, refl))
+    valid : IsValidPrefix source cut.whole.valid → IsUtf8 source
+    valid (inl g) = g.1
+    valid (inr v) = absurd (none (record { rule = L1; span = place_at source cut.whole.valid }) (cut.whole.valid, v, refl))

@@ -5,8 +5,8 @@ mod Starts
 mod MarkTable
 mod Escaping
 mod WordForms
-mod RowCut
-mod RowFlags
+mod LayoutCut
+mod LayoutFlags
 mod FixedWords
 mod PageLemmas
 mod OneString

@@ -12,8 +12,8 @@ use Rattle.sw_lex.specs.declared.bytes.Class.TheVariants as class
 use Rattle.sw_lex.specs.declared.token.TokenKind.{TokenKind}
 use Rattle.sw_lex.specs.declared.token.TokenKind.TheVariants as k
 use Rattle.sw_lex.specs.Bytes.{Text, is_in}
-use Rattle.sw_lex.specs.Forms.{first}
-use Rattle.sw_lex.specs.Tables.{Table, words, marks, is_same_text, kind_in, begins_with, IsListed}
+use Rattle.sw_lex.specs.Lexemes.{first}
+use Rattle.sw_lex.specs.Tables.{Table, words, marks, is_same_text, kind_in, is_prefix_of, IsListed}
 use Rattle.sw_layout.proofs.Starts.{equal, starts, may_follow, is_followed_by_most}
 
 pub both : (s t : Bool) → (s && t) ≡ true → (s ≡ true) × (t ≡ true)
@@ -84,10 +84,10 @@ mark_bytes text kind l = both (nat_lt 0 (length text)) (list_all is_mark_byte te
 
 -- ---- no longer mark begins where one stands
 
--- the bytes with which longer marks of the table go on behind a text
+-- the bytes with which longer marks of the table go on after a text
 abbrev next_bytes : Table → Text → Text
 next_bytes [] text = []
-next_bytes (entry ∷ table) text = cond (nat_lt (length text) (length entry.0) && begins_with text entry.0) (slice_index entry.0 (length text) ∷ next_bytes table text) (next_bytes table text)
+next_bytes (entry ∷ table) text = cond (nat_lt (length text) (length entry.0) && is_prefix_of text entry.0) (slice_index entry.0 (length text) ∷ next_bytes table text) (next_bytes table text)
 
 pub same_self : (text : Text) → is_same_text text text ≡ true
 same_self [] = refl
@@ -98,24 +98,24 @@ same_self (byte ∷ text) = ap (λ t. t && is_same_text text text) (one byte) �
 
 is_next : (table : Table) (text other : Text) (its : TokenKind) (byte : ℕ) → IsListed table other its → length text < length other → take (length text) other ≡ text → slice_index other (length text) ≡ byte
     → list_any (λ known. byte == known) (next_bytes table text) ≡ true
-is_next [] text other its byte l longer front here = absurd l
-is_next (entry ∷ table) text other its byte (inl l) longer front here =
+is_next [] text other its byte l longer prefix here = absurd l
+is_next (entry ∷ table) text other its byte (inl l) longer prefix here =
     let long : nat_lt (length text) (length entry.0) ≡ true = subst (λ (u : Text). nat_lt (length text) (length u) ≡ true) (sym l.0) (grind (arith, common_steps)) in
-    let fronts : begins_with text entry.0 ≡ true = subst (λ (u : Text). begins_with text u ≡ true) (sym l.0) (ap (λ (u : Text). is_same_text u text) front ∙ same_self text) in
+    let fronts : is_prefix_of text entry.0 ≡ true = subst (λ (u : Text). is_prefix_of text u ≡ true) (sym l.0) (ap (λ (u : Text). is_same_text u text) prefix ∙ same_self text) in
     let found : slice_index entry.0 (length text) ≡ byte = ap (λ (u : Text). slice_index u (length text)) l.0 ∙ here in
-    go (nat_lt (length text) (length entry.0) && begins_with text entry.0) (next_bytes table text) (cc) found
+    go (nat_lt (length text) (length entry.0) && is_prefix_of text entry.0) (next_bytes table text) (cc) found
   where
     go : (t : Bool) (more : Text) → t ≡ true → slice_index entry.0 (length text) ≡ byte → list_any (λ known. byte == known) (cond t (slice_index entry.0 (length text) ∷ more) more) ≡ true
     go true more e f = let eq : (byte == slice_index entry.0 (length text)) ≡ true = grind (arith, common_steps) in ap (λ t. t || list_any (λ known. byte == known) more) eq
     go false more e f = absurd (cc)
-is_next (entry ∷ table) text other its byte (inr l) longer front here =
-    go (nat_lt (length text) (length entry.0) && begins_with text entry.0) (is_next table text other its byte l longer front here)
+is_next (entry ∷ table) text other its byte (inr l) longer prefix here =
+    go (nat_lt (length text) (length entry.0) && is_prefix_of text entry.0) (is_next table text other its byte l longer prefix here)
   where
     go : (t : Bool) → list_any (λ known. byte == known) (next_bytes table text) ≡ true → list_any (λ known. byte == known) (cond t (slice_index entry.0 (length text) ∷ next_bytes table text) (next_bytes table text)) ≡ true
     go true h = grind (arith, common_steps)
     go false h = h
 
--- none of them may stand behind the mark
+-- none of them may follow the mark
 none_follow : (kind : TokenKind) (byte : ℕ) (next : Text) → list_all (λ known. not (may_follow kind known)) next ≡ true → list_any (λ known. byte == known) next ≡ true → may_follow kind byte ≡ true → ⊥
 none_follow kind byte [] h a f = absurd (cc)
 none_follow kind byte (known ∷ next) h a f =
@@ -130,21 +130,21 @@ marks_stop : all_entries (λ text kind. list_all (λ known. not (may_follow kind
 unfolding marks
 marks_stop = refl
 
-pub front_is : (text bytes : Text) → begins_with text bytes ≡ true → take (length text) bytes ≡ text
-front_is text bytes h = same_text (take (length text) bytes) text (sym h)
+pub prefix_is : (text bytes : Text) → is_prefix_of text bytes ≡ true → take (length text) bytes ≡ text
+prefix_is text bytes h = same_text (take (length text) bytes) text (sym h)
 
 -- the mark is the longest that begins here
-pub longest : (text rest other : Text) (kind its : TokenKind) (byte : ℕ) → IsListed marks text kind → may_follow kind byte ≡ true → IsListed marks other its → begins_with other (text ++ byte ∷ rest) ≡ true → length other ≤ length text
+pub longest : (text rest other : Text) (kind its : TokenKind) (byte : ℕ) → IsListed marks text kind → may_follow kind byte ≡ true → IsListed marks other its → is_prefix_of other (text ++ byte ∷ rest) ≡ true → length other ≤ length text
 longest text rest other kind its byte l f o b = go (nat_lt (length text) (length other)) refl
   where
     go : (t : Bool) → nat_lt (length text) (length other) ≡ t → length other ≤ length text
     go false e = grind (arith, common_steps)
     go true e =
         let longer : length text < length other = grind (arith, common_steps) in
-        let whole : take (length other) (text ++ byte ∷ rest) ≡ other = front_is other (text ++ byte ∷ rest) b in
-        let front : take (length text) other ≡ text = ap (take (length text)) (sym whole) ∙ take-take (length text) (length other) (text ++ byte ∷ rest) (omega arith) ∙ take-append_seam text (byte ∷ rest) in
+        let whole : take (length other) (text ++ byte ∷ rest) ≡ other = prefix_is other (text ++ byte ∷ rest) b in
+        let prefix : take (length text) other ≡ text = ap (take (length text)) (sym whole) ∙ take-take (length text) (length other) (text ++ byte ∷ rest) (omega arith) ∙ take-append_seam text (byte ∷ rest) in
         let next : slice_index other (length text) ≡ byte = ap (λ (u : Text). slice_index u (length text)) (sym whole) ∙ get_or-take (length other) (text ++ byte ∷ rest) (length text) 0 longer ∙ get_or-append_seam text byte rest 0 in
-        absurd (none_follow kind byte (next_bytes marks text) (listed_passes (λ u of. list_all (λ known. not (may_follow of known)) (next_bytes marks u)) marks text kind marks_stop l) (is_next marks text other its byte o longer front next) f)
+        absurd (none_follow kind byte (next_bytes marks text) (listed_passes (λ u of. list_all (λ known. not (may_follow of known)) (next_bytes marks u)) marks text kind marks_stop l) (is_next marks text other its byte o longer prefix next) f)
 
 -- ---- no comment begins where a mark stands
 

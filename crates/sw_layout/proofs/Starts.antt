@@ -1,4 +1,4 @@
--- The byte that a word begins with, and the bytes that may stand behind a word.
+-- The byte that a word begins with, and the bytes that may follow a word.
 use Rattle.std.proofs.Common.{◌≡◌, ℕ, ◌==◌, Bool, true, false, not, ◌&&◌, [], ◌∷◌, refl, ap, ◌∙◌, arith}
 use Rattle.std.proofs.lemmas.Grind.{common_steps}
 use Rattle.std.specs.List.{list_any}
@@ -6,9 +6,9 @@ use Rattle.sw_lex.specs.declared.bytes.Class.TheVariants as class
 use Rattle.sw_lex.specs.declared.token.TokenKind.{TokenKind}
 use Rattle.sw_lex.specs.declared.token.TokenKind.TheVariants as k
 use Rattle.sw_lex.specs.Bytes.{is_in}
-use Rattle.sw_lex.specs.Forms.{first}
+use Rattle.sw_lex.specs.Lexemes.{first}
 use Rattle.sw_layout.specs.Words.{fixed}
-use Rattle.sw_layout.specs.Rows.{may_touch}
+use Rattle.sw_layout.specs.Layouts.{may_touch}
 
 -- whether a word of this kind begins with the byte
 abbrev pub starts : TokenKind → ℕ → Bool
@@ -24,7 +24,7 @@ starts kind byte = byte == first (fixed kind)
 abbrev pub follows_most : ℕ → Bool
 follows_most byte = list_any (λ known. byte == known) (10 ∷ 32 ∷ 46 ∷ 40 ∷ 91 ∷ 33 ∷ 63 ∷ 41 ∷ [])
 
--- whether the byte may stand behind a word of this kind
+-- whether the byte may follow a word of this kind
 abbrev pub may_follow : TokenKind → ℕ → Bool
 may_follow k.Dot byte = not (byte == 46)
 may_follow k.Question byte = not (byte == 63)

@@ -29,9 +29,9 @@ both true true h = (refl, refl)
 both true false h = absurd (cc)
 both false t h = absurd (cc)
 
-at_seam : (ds rest : Text) (b : ℕ) → slice_index (ds ++ b ∷ rest) (length ds) ≡ b
-at_seam [] rest b = refl
-at_seam (d ∷ ds) rest b = let e : length (d ∷ ds) ≡ suc (length ds) = omega arith in ap (λ n. slice_index (d ∷ (ds ++ b ∷ rest)) n) e ∙ at_seam ds rest b
+at_boundary : (ds rest : Text) (b : ℕ) → slice_index (ds ++ b ∷ rest) (length ds) ≡ b
+at_boundary [] rest b = refl
+at_boundary (d ∷ ds) rest b = let e : length (d ∷ ds) ≡ suc (length ds) = omega arith in ap (λ n. slice_index (d ∷ (ds ++ b ∷ rest)) n) e ∙ at_boundary ds rest b
 
 low_append : (y z : Text) → AllLow y → AllLow z → AllLow (y ++ z)
 low_append [] z h k = k
@@ -58,30 +58,30 @@ hex_low (b ∷ digits) h = let two = both (is_in class.Hex b) (list_all (is_in c
 escaped_low : (letter : ℕ) → is_escape letter ≡ true → escaped letter < 128
 escaped_low letter h = let low = letter_low letter h in grind (arith, common_steps)
 
--- behind characters, what is left of a text of characters is one
-pub rest_utf8 : (front rest : Text) → IsUtf8 front → IsUtf8 (front ++ rest) → IsUtf8 rest
-rest_utf8 front rest u w =
-    let seam = IsCharBoundary-from_take (front ++ rest) (length front) w (omega (arith, length-append front rest)) (subst IsUtf8 (sym (taken front)) u) in
-    subst IsUtf8 (dropped front) (IsUtf8-drop (front ++ rest) (length front) w seam)
+-- after characters, what is left of a text of characters is one
+pub rest_utf8 : (prefix rest : Text) → IsUtf8 prefix → IsUtf8 (prefix ++ rest) → IsUtf8 rest
+rest_utf8 prefix rest u w =
+    let boundary = IsCharBoundary-from_take (prefix ++ rest) (length prefix) w (omega (arith, length-append prefix rest)) (subst IsUtf8 (sym (taken prefix)) u) in
+    subst IsUtf8 (dropped prefix) (IsUtf8-drop (prefix ++ rest) (length prefix) w boundary)
   where
-    taken : (front : Text) → take (length front) (front ++ rest) ≡ front
+    taken : (prefix : Text) → take (length prefix) (prefix ++ rest) ≡ prefix
     taken [] = refl
-    taken (b ∷ front) = let e : length (b ∷ front) ≡ suc (length front) = omega arith in ap (λ n. take n (b ∷ (front ++ rest))) e ∙ ap (λ u. b ∷ u) (taken front)
+    taken (b ∷ prefix) = let e : length (b ∷ prefix) ≡ suc (length prefix) = omega arith in ap (λ n. take n (b ∷ (prefix ++ rest))) e ∙ ap (λ u. b ∷ u) (taken prefix)
 
-    dropped : (front : Text) → drop (length front) (front ++ rest) ≡ rest
+    dropped : (prefix : Text) → drop (length prefix) (prefix ++ rest) ≡ rest
     dropped [] = refl
-    dropped (b ∷ front) = let e : length (b ∷ front) ≡ suc (length front) = omega arith in ap (λ n. drop n (b ∷ (front ++ rest))) e ∙ dropped front
+    dropped (b ∷ prefix) = let e : length (b ∷ prefix) ≡ suc (length prefix) = omega arith in ap (λ n. drop n (b ∷ (prefix ++ rest))) e ∙ dropped prefix
 
 -- before a byte of ASCII a character ends
-pub front_utf8 : (front rest : Text) (byte : ℕ) → byte < 128 → IsUtf8 (front ++ byte ∷ rest) → IsUtf8 front
-front_utf8 front rest byte low w =
-    let here : slice_index (front ++ byte ∷ rest) (length front) ≡ byte = at_seam front rest byte in
-    let seam = IsCharBoundary-before_ascii (front ++ byte ∷ rest) (length front) (omega (arith, length-append front (byte ∷ rest))) (omega (arith, here, low)) in
-    subst IsUtf8 (taken front) (IsUtf8-take (front ++ byte ∷ rest) (length front) w seam)
+pub prefix_utf8 : (prefix rest : Text) (byte : ℕ) → byte < 128 → IsUtf8 (prefix ++ byte ∷ rest) → IsUtf8 prefix
+prefix_utf8 prefix rest byte low w =
+    let here : slice_index (prefix ++ byte ∷ rest) (length prefix) ≡ byte = at_boundary prefix rest byte in
+    let boundary = IsCharBoundary-before_ascii (prefix ++ byte ∷ rest) (length prefix) (omega (arith, length-append prefix (byte ∷ rest))) (omega (arith, here, low)) in
+    subst IsUtf8 (taken prefix) (IsUtf8-take (prefix ++ byte ∷ rest) (length prefix) w boundary)
   where
-    taken : (front : Text) → take (length front) (front ++ byte ∷ rest) ≡ front
+    taken : (prefix : Text) → take (length prefix) (prefix ++ byte ∷ rest) ≡ prefix
     taken [] = refl
-    taken (b ∷ front) = let e : length (b ∷ front) ≡ suc (length front) = omega arith in ap (λ n. take n (b ∷ (front ++ byte ∷ rest))) e ∙ ap (λ u. b ∷ u) (taken front)
+    taken (b ∷ prefix) = let e : length (b ∷ prefix) ≡ suc (length prefix) = omega arith in ap (λ n. take n (b ∷ (prefix ++ byte ∷ rest))) e ∙ ap (λ u. b ∷ u) (taken prefix)
 
 either_one : (s t : Bool) → (s || t) ≡ true → cond s true t ≡ true
 either_one true t h = refl
@@ -91,28 +91,28 @@ either_one false t h = h
 abbrev PieceFact : Text → Text → Type 0
 PieceFact bytes text = ((byte : ℕ) × (more : Text) × (bytes ≡ byte ∷ more) × AllLow (byte ∷ more) × IsUtf8 text) ⊎ ((byte : ℕ) × (bytes ≡ byte ∷ []) × (text ≡ byte ∷ []))
 
-piece_fact : (good : ℕ) (bytes text : Text) → IsPiece good bytes text → PieceFact bytes text
-piece_fact good bytes text (inl (byte, e, f, plain)) = go (nat_lt byte 128) refl
+piece_fact : (valid : ℕ) (bytes text : Text) → IsPiece valid bytes text → PieceFact bytes text
+piece_fact valid bytes text (inl (byte, e, f, plain)) = go (nat_lt byte 128) refl
   where
     go : (t : Bool) → nat_lt byte 128 ≡ t → PieceFact bytes text
     go true h = let low : byte < 128 = grind (arith, common_steps) in inl (byte, [], e, (low, tt), subst IsUtf8 (sym f) (low_utf8 (byte ∷ []) (low, tt)))
     go false h = inr (byte, e, f)
-piece_fact good bytes text (inr (inl (letter, e, f, known))) =
+piece_fact valid bytes text (inr (inl (letter, e, f, known))) =
     inl (92, letter ∷ [], e, (omega arith, (letter_low letter known, tt)), subst IsUtf8 (sym f) (low_utf8 (escaped letter ∷ []) (escaped_low letter known, tt)))
-piece_fact good bytes text (inr (inr (digits, e, f, hex, some, few, scalar))) =
+piece_fact valid bytes text (inr (inr (digits, e, f, hex, some, few, scalar))) =
     inl (92, _, e, (omega arith, (omega arith, (omega arith, low_append digits (125 ∷ []) (hex_low digits hex) (omega arith, tt)))), subst IsUtf8 (sym f) (IsUtf8-encode (hex_number 0 digits) (either_one (nat_lt (hex_number 0 digits) 55296) (nat_le 57344 (hex_number 0 digits) && nat_lt (hex_number 0 digits) 1114112) scalar)))
 
--- bytes that are no ASCII, so far, with those of the pieces behind them
-pub text_utf8 : (good : ℕ) (high : Text) (parts : List Part) → ArePieces good parts → IsUtf8 (high ++ bytes_of parts) → IsUtf8 (high ++ text_of parts)
-text_utf8 good high [] are u = u
-text_utf8 good high (part ∷ parts) are u = go (piece_fact good part.bytes part.text are.0) (λ high. text_utf8 (good - length part.bytes) high parts are.1)
+-- bytes that are no ASCII, so far, with those of the pieces after them
+pub text_utf8 : (valid : ℕ) (high : Text) (parts : List Part) → ArePieces valid parts → IsUtf8 (high ++ bytes_of parts) → IsUtf8 (high ++ text_of parts)
+text_utf8 valid high [] are u = u
+text_utf8 valid high (part ∷ parts) are u = go (piece_fact valid part.bytes part.text are.0) (λ high. text_utf8 (valid - length part.bytes) high parts are.1)
   where
     go : PieceFact part.bytes part.text → ((high : Text) → IsUtf8 (high ++ bytes_of parts) → IsUtf8 (high ++ text_of parts)) → IsUtf8 (high ++ (part.text ++ text_of parts))
     go (inl (byte, more, e, low, t)) again =
         let whole : IsUtf8 (high ++ byte ∷ (more ++ bytes_of parts)) = subst (λ (b : Text). IsUtf8 (high ++ (b ++ bytes_of parts))) e u in
-        let front : IsUtf8 high = front_utf8 high (more ++ bytes_of parts) byte low.0 whole in
-        let behind : IsUtf8 (bytes_of parts) = rest_utf8 (byte ∷ more) (bytes_of parts) (low_utf8 (byte ∷ more) low) (rest_utf8 high (byte ∷ (more ++ bytes_of parts)) front whole) in
-        IsUtf8-append high (part.text ++ text_of parts) front (IsUtf8-append part.text (text_of parts) t (again [] behind))
+        let prefix : IsUtf8 high = prefix_utf8 high (more ++ bytes_of parts) byte low.0 whole in
+        let following : IsUtf8 (bytes_of parts) = rest_utf8 (byte ∷ more) (bytes_of parts) (low_utf8 (byte ∷ more) low) (rest_utf8 high (byte ∷ (more ++ bytes_of parts)) prefix whole) in
+        IsUtf8-append high (part.text ++ text_of parts) prefix (IsUtf8-append part.text (text_of parts) t (again [] following))
     go (inr (byte, e, f)) again =
         let whole : IsUtf8 (high ++ byte ∷ bytes_of parts) = subst (λ (b : Text). IsUtf8 (high ++ (b ++ bytes_of parts))) e u in
         let more = again (high ++ byte ∷ []) (subst IsUtf8 (sym (append_assoc high (byte ∷ []) (bytes_of parts))) whole) in

@@ -1,4 +1,4 @@
--- A word's spelling has the form of a token of its kind, behind which a byte stands that may follow it.
+-- A word's spelling has the form of a token of its kind, after which a byte stands that may follow it.
 use Rattle.std.proofs.Common.{◌≡◌, ◌<◌, ◌≤◌, ℕ, ◌+◌, ◌-◌, ◌==◌, Bool, true, false, cond, not, ◌&&◌, ◌||◌, [], ◌∷◌, ◌++◌, length, refl, ap, sym, ◌∙◌, arith, nat_lt, length-append}
 use Rattle.std.proofs.Math.Seq.{take-append_seam}
 use Rattle.std.proofs.lemmas.Grind.{common_steps}
@@ -8,27 +8,27 @@ use Rattle.std.specs.Prelude.{slice_index}
 use Rattle.std.specs.Str.{IsUtf8}
 use mathlib.Core.Logic.{inl, inr}
 use Rattle.sw_lex.specs.declared.bytes.Class.TheVariants as class
-use Rattle.sw_lex.specs.declared.forms.Begin.TheVariants.{Token}
+use Rattle.sw_lex.specs.declared.lexemes.Lexeme.TheVariants.{Token}
 use Rattle.sw_lex.specs.declared.token.TokenKind.{TokenKind}
 use Rattle.sw_lex.specs.declared.token.TokenKind.TheVariants as k
 use Rattle.sw_lex.specs.Bytes.{Text, is_in}
-use Rattle.sw_lex.specs.Forms.{first, opening, has_three_quotes, is_line_comment, is_block_comment, HasForm}
-use Rattle.sw_lex.specs.Tables.{marks, kind_of_word, begins_with, is_same_text, IsListed}
+use Rattle.sw_lex.specs.Lexemes.{first, opening, has_three_quotes, is_line_comment, is_block_comment, HasForm}
+use Rattle.sw_lex.specs.Tables.{marks, kind_of_word, is_prefix_of, is_same_text, IsListed}
 use Rattle.sw_lex.specs.Tokens.{IsTextOf}
 use Rattle.sw_layout.specs.Words.{escapes, spelling}
-use Rattle.sw_layout.specs.Rows.{Fits, IsDigits, IsWord, is_resumed}
+use Rattle.sw_layout.specs.Layouts.{Fits, IsDigits, IsWord, is_resumed}
 use Rattle.sw_layout.proofs.Starts.{follows_most, may_follow, most_follow, starts, is_followed_by_most}
 use Rattle.sw_layout.proofs.MarkTable.{both, is_comment, longest, mark_bytes, mark_no_comment, mark_starts, paren_mark, same_self, word_followed, word_starts, is_mark_byte}
 use Rattle.sw_layout.proofs.Escaping.{escapes_no_line, escapes_utf8, has_no_line, is_low, low_utf8, no_line_append, no_quotes, stands_for, string_form}
 
 -- ---- names, reserved words and integers
 
-run_to : (p : ℕ → Bool) (front rest : Text) (byte : ℕ) → list_all p front ≡ true → p byte ≡ false → prefix_len p (front ++ byte ∷ rest) ≡ length front
+run_to : (p : ℕ → Bool) (prefix rest : Text) (byte : ℕ) → list_all p prefix ≡ true → p byte ≡ false → prefix_len p (prefix ++ byte ∷ rest) ≡ length prefix
 run_to p [] rest byte h e = ap (λ t. cond t (1 + prefix_len p rest) 0) e
-run_to p (one ∷ front) rest byte h e =
-    let two = both (p one) (list_all p front) h in
-    let more = run_to p front rest byte two.1 e in
-    ap (λ t. cond t (1 + prefix_len p (front ++ byte ∷ rest)) 0) two.0 ∙ omega (arith, more)
+run_to p (one ∷ prefix) rest byte h e =
+    let two = both (p one) (list_all p prefix) h in
+    let more = run_to p prefix rest byte two.1 e in
+    ap (λ t. cond t (1 + prefix_len p (prefix ++ byte ∷ rest)) 0) two.0 ∙ omega (arith, more)
 
 most_no_name : (byte : ℕ) → follows_most byte ≡ true → is_in class.Name byte ≡ false
 most_no_name byte h = grind (arith, common_steps)
@@ -59,16 +59,16 @@ word_most : (kind : TokenKind) (text : Text) (byte : ℕ) → IsWord kind text �
 word_most kind [] byte w f = absurd w
 word_most kind (one ∷ text) byte w f = most_follow kind byte (ap is_followed_by_most w.2 ∙ word_followed (one ∷ text)) f
 
-word_form : (inside closing : Bool) (good : ℕ) (kind : TokenKind) (text rest : Text) (byte : ℕ) → IsWord kind text → may_follow kind byte ≡ true → HasForm inside closing good (text ++ byte ∷ rest) (Token kind (length text))
-word_form inside closing good kind [] rest byte w f = absurd w
-word_form inside closing good kind (one ∷ text) rest byte w f =
+word_form : (inside closing : Bool) (valid : ℕ) (kind : TokenKind) (text rest : Text) (byte : ℕ) → IsWord kind text → may_follow kind byte ≡ true → HasForm inside closing valid (text ++ byte ∷ rest) (Token kind (length text))
+word_form inside closing valid kind [] rest byte w f = absurd w
+word_form inside closing valid kind (one ∷ text) rest byte w f =
     let all = name_bytes kind (one ∷ text) w in
     let none = most_no_name byte (word_most kind (one ∷ text) byte w f) in
     inl (w.0, sym (run_to (is_in class.Name) (one ∷ text) rest byte all none), w.2 ∙ ap kind_of_word (sym (take-append_seam (one ∷ text) (byte ∷ rest))))
 
-integer_form : (inside closing : Bool) (good : ℕ) (text rest : Text) (byte : ℕ) → IsDigits text → follows_most byte ≡ true → HasForm inside closing good (text ++ byte ∷ rest) (Token k.Integer (length text))
-integer_form inside closing good [] rest byte d f = absurd d
-integer_form inside closing good (one ∷ text) rest byte d f =
+integer_form : (inside closing : Bool) (valid : ℕ) (text rest : Text) (byte : ℕ) → IsDigits text → follows_most byte ≡ true → HasForm inside closing valid (text ++ byte ∷ rest) (Token k.Integer (length text))
+integer_form inside closing valid [] rest byte d f = absurd d
+integer_form inside closing valid (one ∷ text) rest byte d f =
     inr (inl (d.0, sym (run_to (is_in class.Integer) (one ∷ text) rest byte (digit_bytes (one ∷ text) d) (most_no_digit byte f)), refl))
 
 -- ---- marks
@@ -94,10 +94,10 @@ no_block_comment bytes h = go (slice_index bytes 0 == 47) (slice_index bytes 1 =
     go true false true h = absurd (cc)
     go true true true h = absurd (cc)
 
-mark_form : (inside closing : Bool) (good : ℕ) (kind : TokenKind) (text rest : Text) (byte : ℕ) → IsListed marks text kind → may_follow kind byte ≡ true → (kind ≡ k.RightParen → closing ≡ false)
-    → HasForm inside closing good (text ++ byte ∷ rest) (Token kind (length text))
-mark_form inside closing good kind text rest byte l f closed =
-    let begins : begins_with text (text ++ byte ∷ rest) ≡ true = ap (λ (u : Text). is_same_text u text) (take-append_seam text (byte ∷ rest)) ∙ same_self text in
+mark_form : (inside closing : Bool) (valid : ℕ) (kind : TokenKind) (text rest : Text) (byte : ℕ) → IsListed marks text kind → may_follow kind byte ≡ true → (kind ≡ k.RightParen → closing ≡ false)
+    → HasForm inside closing valid (text ++ byte ∷ rest) (Token kind (length text))
+mark_form inside closing valid kind text rest byte l f closed =
+    let begins : is_prefix_of text (text ++ byte ∷ rest) ≡ true = ap (λ (u : Text). is_same_text u text) (take-append_seam text (byte ∷ rest)) ∙ same_self text in
     let none = mark_no_comment text rest kind byte l f in
     inr (inr (inr (inr (
       text,
@@ -129,33 +129,33 @@ start_no_quotes [] rest = refl
 start_no_quotes (one ∷ text) rest = no_quotes one text opening rest
 
 -- the pieces are fewer bytes than the string
-fewer : (mark good : ℕ) (closing text : Text) → length (mark ∷ (escapes text ++ closing)) ≤ good → length (escapes text) ≤ good - 1
-fewer mark good closing text h = omega (arith, h, length-append (escapes text) closing)
+fewer : (mark valid : ℕ) (closing text : Text) → length (mark ∷ (escapes text ++ closing)) ≤ valid → length (escapes text) ≤ valid - 1
+fewer mark valid closing text h = omega (arith, h, length-append (escapes text) closing)
 
 -- ---- all of them
 
 -- where this many of the bytes are characters
-pub has_form : (inside closing : Bool) (good : ℕ) (kind : TokenKind) (text rest : Text) (byte : ℕ) → Fits kind text → may_follow kind byte ≡ true → (is_resumed kind ≡ true → closing ≡ true) → (kind ≡ k.RightParen → closing ≡ false) → length (spelling kind text) ≤ good
-    → HasForm inside closing good (spelling kind text ++ byte ∷ rest) (Token kind (length (spelling kind text)))
-has_form inside closing good k.Integer text rest byte fits f resumed closed h = integer_form inside closing good text rest byte fits f
-has_form inside closing good k.StringWhole text rest byte fits f resumed closed h =
-    inr (inr (inl (whole_no_quotes text rest byte f, inl (refl, string_form 34 good (34 ∷ []) text (byte ∷ rest) (fewer 34 good (34 ∷ []) text h)))))
-has_form inside closing good k.StringStart text rest byte fits f resumed closed h =
-    inr (inr (inl (start_no_quotes text (byte ∷ rest), inr (refl, string_form 34 good opening text (byte ∷ rest) (fewer 34 good opening text h)))))
-has_form inside closing good k.StringMiddle text rest byte fits f resumed closed h =
-    inr (inr (inr (inl (resumed refl, inr (refl, string_form 41 good opening text (byte ∷ rest) (fewer 41 good opening text h))))))
-has_form inside closing good k.StringLast text rest byte fits f resumed closed h =
-    inr (inr (inr (inl (resumed refl, inl (refl, string_form 41 good (34 ∷ []) text (byte ∷ rest) (fewer 41 good (34 ∷ []) text h))))))
-has_form inside closing good kind text rest byte (inl w) f resumed closed h = word_form inside closing good kind text rest byte w f
-has_form inside closing good kind text rest byte (inr l) f resumed closed h = mark_form inside closing good kind text rest byte l f closed
+pub has_form : (inside closing : Bool) (valid : ℕ) (kind : TokenKind) (text rest : Text) (byte : ℕ) → Fits kind text → may_follow kind byte ≡ true → (is_resumed kind ≡ true → closing ≡ true) → (kind ≡ k.RightParen → closing ≡ false) → length (spelling kind text) ≤ valid
+    → HasForm inside closing valid (spelling kind text ++ byte ∷ rest) (Token kind (length (spelling kind text)))
+has_form inside closing valid k.Integer text rest byte fits f resumed closed h = integer_form inside closing valid text rest byte fits f
+has_form inside closing valid k.StringWhole text rest byte fits f resumed closed h =
+    inr (inr (inl (whole_no_quotes text rest byte f, inl (refl, string_form 34 valid (34 ∷ []) text (byte ∷ rest) (fewer 34 valid (34 ∷ []) text h)))))
+has_form inside closing valid k.StringStart text rest byte fits f resumed closed h =
+    inr (inr (inl (start_no_quotes text (byte ∷ rest), inr (refl, string_form 34 valid opening text (byte ∷ rest) (fewer 34 valid opening text h)))))
+has_form inside closing valid k.StringMiddle text rest byte fits f resumed closed h =
+    inr (inr (inr (inl (resumed refl, inr (refl, string_form 41 valid opening text (byte ∷ rest) (fewer 41 valid opening text h))))))
+has_form inside closing valid k.StringLast text rest byte fits f resumed closed h =
+    inr (inr (inr (inl (resumed refl, inl (refl, string_form 41 valid (34 ∷ []) text (byte ∷ rest) (fewer 41 valid (34 ∷ []) text h))))))
+has_form inside closing valid kind text rest byte (inl w) f resumed closed h = word_form inside closing valid kind text rest byte w f
+has_form inside closing valid kind text rest byte (inr l) f resumed closed h = mark_form inside closing valid kind text rest byte l f closed
 
 -- the text is that of the token
-pub has_text : (good : ℕ) (kind : TokenKind) (text : Text) → Fits kind text → length (spelling kind text) ≤ good → IsTextOf kind good (spelling kind text) text
-has_text good k.StringWhole text fits h = stands_for 34 good (34 ∷ []) text (fewer 34 good (34 ∷ []) text h)
-has_text good k.StringStart text fits h = stands_for 34 good opening text (fewer 34 good opening text h)
-has_text good k.StringMiddle text fits h = stands_for 41 good opening text (fewer 41 good opening text h)
-has_text good k.StringLast text fits h = stands_for 41 good (34 ∷ []) text (fewer 41 good (34 ∷ []) text h)
-has_text good kind text fits h = refl
+pub has_text : (valid : ℕ) (kind : TokenKind) (text : Text) → Fits kind text → length (spelling kind text) ≤ valid → IsTextOf kind valid (spelling kind text) text
+has_text valid k.StringWhole text fits h = stands_for 34 valid (34 ∷ []) text (fewer 34 valid (34 ∷ []) text h)
+has_text valid k.StringStart text fits h = stands_for 34 valid opening text (fewer 34 valid opening text h)
+has_text valid k.StringMiddle text fits h = stands_for 41 valid opening text (fewer 41 valid opening text h)
+has_text valid k.StringLast text fits h = stands_for 41 valid (34 ∷ []) text (fewer 41 valid (34 ∷ []) text h)
+has_text valid kind text fits h = refl
 
 -- the byte that it begins with
 abbrev pub Begun : TokenKind → Text → Type 0

@@ -2,7 +2,7 @@
 use Rattle.std.specs.Prelude.{◌≢◌, List, [], ◌∷◌}
 use Rattle.sw_lex.specs.declared.token.TokenKind.TheVariants as k
 use Rattle.sw_lex.specs.declared.token.Token.{Token}
-use Rattle.sw_layout.specs.Rows.{Fits}
+use Rattle.sw_layout.specs.Layouts.{Fits}
 
 -- each but the end is one of its kind
 abbrev pub AreFit : List Token → Type 0

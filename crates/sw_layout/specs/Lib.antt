@@ -1,4 +1,4 @@
 pub mod Words
-pub mod Rows
+pub mod Layouts
 pub mod Lexed
 pub mod Apart

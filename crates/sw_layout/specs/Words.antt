@@ -1,11 +1,12 @@
--- Words, each with what stands before it; the text of a row of words; and the tokens that the row is.
+-- Words, each with what stands before it; the text of a list of words; and the tokens that the list is.
 use Rattle.std.specs.Prelude.{ℕ, Bool, true, false, if◌then◌else◌, ◌==◌, ◌||◌, List, [], ◌∷◌, ◌++◌, map, codes}
 use Rattle.sw_base.specs.declared.ids.Span.{Span}
 use Rattle.sw_lex.specs.declared.token.TokenKind.{TokenKind}
 use Rattle.sw_lex.specs.declared.token.TokenKind.TheVariants as k
 use Rattle.sw_lex.specs.declared.token.Token.{Token}
 use Rattle.sw_lex.specs.Bytes.{Text, tab, line_feed, carriage_return, space, quote, right_paren, backslash}
-use Rattle.sw_lex.specs.Forms.{opening}
+use Rattle.sw_lex.specs.Lexemes.{opening}
+pub use Rattle.sw_lex.specs.Tables.{fixed}
 use Rattle.sw_layout.specs.declared.gap.Gap.{Gap}
 use Rattle.sw_layout.specs.declared.gap.Gap.TheVariants as gap
 
@@ -46,101 +47,15 @@ spelling k.StringMiddle text = right_paren ∷ (escapes text ++ opening)
 spelling k.StringLast text = right_paren ∷ (escapes text ++ quote ∷ [])
 spelling kind text = text
 
--- the bytes of a row of words
-abbrev pub row_text : List Word → Text
-row_text [] = []
-row_text (word ∷ words) = gap_text word.gap ++ (spelling word.kind word.text ++ row_text words)
+-- the bytes of a list of words
+abbrev pub words_text : List Word → Text
+words_text [] = []
+words_text (word ∷ words) = gap_text word.gap ++ (spelling word.kind word.text ++ words_text words)
 
--- the text of a whole row: the last of its lines is ended
+-- the text of a whole layout: the last of its lines is ended
 abbrev pub page_text : List Word → Text
 page_text [] = []
-page_text (word ∷ words) = row_text (word ∷ words) ++ line_feed ∷ []
-
--- how a reserved word, a lone `_` or a mark is spelt; other kinds have no spelling of their own
-abbrev pub fixed : TokenKind → Text
-fixed k.Underscore = codes "_"
-fixed k.Any = codes "any"
-fixed k.As = codes "as"
-fixed k.Async = codes "async"
-fixed k.Await = codes "await"
-fixed k.Break = codes "break"
-fixed k.Case = codes "case"
-fixed k.Catch = codes "catch"
-fixed k.Continue = codes "continue"
-fixed k.Default = codes "default"
-fixed k.Defer = codes "defer"
-fixed k.Do = codes "do"
-fixed k.Else = codes "else"
-fixed k.Enum = codes "enum"
-fixed k.Extension = codes "extension"
-fixed k.False = codes "false"
-fixed k.Fileprivate = codes "fileprivate"
-fixed k.For = codes "for"
-fixed k.Func = codes "func"
-fixed k.Guard = codes "guard"
-fixed k.If = codes "if"
-fixed k.Import = codes "import"
-fixed k.In = codes "in"
-fixed k.Init = codes "init"
-fixed k.Inout = codes "inout"
-fixed k.Internal = codes "internal"
-fixed k.Is = codes "is"
-fixed k.Let = codes "let"
-fixed k.Nil = codes "nil"
-fixed k.Private = codes "private"
-fixed k.Protocol = codes "protocol"
-fixed k.Public = codes "public"
-fixed k.Repeat = codes "repeat"
-fixed k.Return = codes "return"
-fixed k.Self_ = codes "self"
-fixed k.Static = codes "static"
-fixed k.Struct = codes "struct"
-fixed k.Super = codes "super"
-fixed k.Switch = codes "switch"
-fixed k.Throw = codes "throw"
-fixed k.Throws = codes "throws"
-fixed k.True = codes "true"
-fixed k.Try = codes "try"
-fixed k.Typealias = codes "typealias"
-fixed k.Var = codes "var"
-fixed k.Where = codes "where"
-fixed k.While = codes "while"
-fixed k.HalfOpenRange = codes "..<"
-fixed k.Ellipsis = codes "..."
-fixed k.Arrow = codes "->"
-fixed k.EqualEqual = codes "=="
-fixed k.NotEqual = codes "!="
-fixed k.LessEqual = codes "<="
-fixed k.GreaterEqual = codes ">="
-fixed k.And = codes "&&"
-fixed k.Or = codes "||"
-fixed k.Coalesce = codes "??"
-fixed k.PlusAssign = codes "+="
-fixed k.MinusAssign = codes "-="
-fixed k.StarAssign = codes "*="
-fixed k.SlashAssign = codes "/="
-fixed k.PercentAssign = codes "%="
-fixed k.LeftParen = codes "("
-fixed k.RightParen = codes ")"
-fixed k.LeftBracket = codes "["
-fixed k.RightBracket = codes "]"
-fixed k.LeftBrace = codes "{"
-fixed k.RightBrace = codes "}"
-fixed k.Comma = codes ","
-fixed k.Colon = codes ":"
-fixed k.Semicolon = codes ";"
-fixed k.Dot = codes "."
-fixed k.Assign = codes "="
-fixed k.Plus = codes "+"
-fixed k.Minus = codes "-"
-fixed k.Star = codes "*"
-fixed k.Slash = codes "/"
-fixed k.Percent = codes "%"
-fixed k.Less = codes "<"
-fixed k.Greater = codes ">"
-fixed k.Bang = codes "!"
-fixed k.Question = codes "?"
-fixed kind = []
+page_text (word ∷ words) = words_text (word ∷ words) ++ line_feed ∷ []
 
 -- a reserved word, a lone `_` or a mark
 abbrev pub plain : TokenKind → Gap → Word
@@ -188,11 +103,11 @@ token_of word = record {
   after_space = is_spaced word.gap;
 }
 
--- the token for the end, behind a row of words: it stands on the line of the last one, which is ended
-abbrev pub end_behind : List Word → Token
-end_behind [] = record { kind = k.End; text = []; span = nowhere; first_on_line = true; touches = false; after_space = false }
-end_behind (word ∷ words) = record { kind = k.End; text = []; span = nowhere; first_on_line = false; touches = false; after_space = true }
+-- the token for the end, after a list of words: it stands on the line of the last one, which is ended
+abbrev pub end_after : List Word → Token
+end_after [] = record { kind = k.End; text = []; span = nowhere; first_on_line = true; touches = false; after_space = false }
+end_after (word ∷ words) = record { kind = k.End; text = []; span = nowhere; first_on_line = false; touches = false; after_space = true }
 
--- the tokens of a whole row, without their places
+-- the tokens of a whole layout, without their places
 abbrev pub page_tokens : List Word → List Token
-page_tokens words = map token_of words ++ end_behind words ∷ []
+page_tokens words = map token_of words ++ end_after words ∷ []

@@ -4,7 +4,7 @@ use Rattle.std.proofs.lemmas.Grind.{common_steps}
 use Rattle.std.specs.Prelude.{slice_index}
 use Rattle.sw_lex.specs.Bytes.{Text}
 use Rattle.sw_lex.specs.Comments.{Closes, ends, passes, nests, is_comment_mark}
-use Rattle.sw_lex.specs.Reading.{comment_len}
+use Rattle.sw_lex.specs.Matching.{comment_len}
 use Rattle.sw_lex.proofs.PieceLemmas.{both, equal}
 
 -- the rest is shorter
@@ -28,7 +28,7 @@ no_mark false false h = (refl, refl)
 
 -- ---- a comment is read by the code
 
--- behind a comment that closes, where so many are open still
+-- after a comment that closes, where so many are open still
 abbrev goes_on : ℕ → ℕ → Text → Option ℕ
 goes_on zero size rest = Some size
 goes_on (suc depth) size rest = comment_len 0 (suc depth) size rest
@@ -132,6 +132,6 @@ close_fact left depth before [] = tt
 close_fact (suc left) depth before (b ∷ z) = passed_fact left depth before b z (comment_len left (suc depth) (before + 1) z) (close_fact left depth (before + 1) z)
 close_fact zero depth before (b ∷ z) = step_fact depth before b z (λ left depth. close_fact left depth (before + 1) z)
 
--- where the code finds the length of a comment behind its `/*`, the comment closes, and the rest is what it leaves
+-- where the code finds the length of a comment after its `/*`, the comment closes, and the rest is what it leaves
 pub comment_fact : (z : Text) → CloseFact 0 0 2 z (comment_len 0 1 2 z)
 comment_fact z = close_fact 0 0 2 z

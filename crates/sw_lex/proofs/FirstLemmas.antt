@@ -2,7 +2,7 @@
 use Rattle.std.proofs.Common.{◌≡◌, ◌⊎◌, ℕ, Some, None, refl, ◌∙◌, arith}
 use mathlib.Core.Logic.{inl, inr}
 use Rattle.sw_rules.specs.declared.Rule.{Rule}
-use Rattle.sw_lex.specs.Finding.{Found, IsBefore, IsFirst}
+use Rattle.sw_lex.specs.FirstBroken.{Found, IsBefore, IsFirst}
 
 abbrev pub pair : Rule → ℕ → Rule × ℕ
 pair rule at = (rule, at)

@@ -3,7 +3,7 @@ use Rattle.std.proofs.Common.{◌≡◌, ◌≤◌, ℕ, ◌+◌, ◌*◌, Bool,
 use Rattle.std.proofs.lemmas.Grind.{common_steps}
 use Rattle.sw_lex.specs.Bytes.{Text}
 use Rattle.sw_lex.specs.Strings.{hex_number, hex_digit, is_scalar}
-use Rattle.sw_lex.specs.Reading.{scalar_text}
+use Rattle.sw_lex.specs.Matching.{scalar_text}
 
 hex_grows : (n : ℕ) (z : Text) → n ≤ hex_number n z
 hex_grows n [] = omega arith

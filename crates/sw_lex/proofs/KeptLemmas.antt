@@ -65,7 +65,7 @@ kept_pushed old new entries entry text g h t = kept_one new entries entry (slice
 pub pushed : (old new : List Text) (entries : List Entry) (entry : Entry) (text : Text) → IsGrown old new → AreKept old entries → slice_get new entry.text ≡ Some text
     → tokens_in new (entries ++ entry ∷ []) ≡ tokens_in old entries ++ with_text text entry ∷ []
 pushed old new entries entry text g h t =
-    let front = same_grown old new entries g h in
+    let prefix = same_grown old new entries g h in
     let last = ap (λ u. with_text u entry) (get_or_from_slice_get new entry.text text [] t) in
     map-append (token_in new) entries (entry ∷ []) ∙ cc
 

@@ -9,10 +9,10 @@ use Rattle.std.specs.Char.{encode_utf8}
 use Rattle.std.specs.List.{prefix_len, list_all}
 use Rattle.sw_lex.specs.declared.bytes.Class.TheVariants as class
 use Rattle.sw_lex.specs.declared.strings.Piece.{Piece}
-use Rattle.sw_lex.specs.declared.strings.Piece.TheVariants.{Plain, Quote, Open, NoForm, LineEnd}
+use Rattle.sw_lex.specs.declared.strings.Piece.TheVariants.{Plain, Quote, Open, Invalid, LineEnd}
 use Rattle.sw_lex.specs.Bytes.{Text, is_in}
 use Rattle.sw_lex.specs.Strings.{IsPiece, is_plain, is_escape, escaped, hex_number, is_scalar}
-use Rattle.sw_lex.specs.Reading.{piece, escape, unicode, hex_len, spoken, spoken_len, scalar_text}
+use Rattle.sw_lex.specs.Matching.{piece, escape, unicode, hex_len, piece_text, piece_len, scalar_text}
 
 pick : (P : Piece → Type 0) (t : Bool) (a b : Piece) → (t ≡ true → P a) → (t ≡ false → P b) → P (cond t a b)
 pick P true a b f g = f refl
@@ -44,9 +44,9 @@ run_to p (d ∷ ds) rest b h e =
     let more = run_to p ds rest b two.1 e in
     ap (λ t. cond t (1 + prefix_len p (ds ++ b ∷ rest)) 0) two.0 ∙ omega (arith, more)
 
-pub at_seam : (ds rest : Text) (b : ℕ) → slice_index (ds ++ b ∷ rest) (length ds) ≡ b
-at_seam [] rest b = refl
-at_seam (d ∷ ds) rest b = let e : length (d ∷ ds) ≡ suc (length ds) = omega arith in ap (λ n. slice_index (d ∷ ds ++ b ∷ rest) n) e ∙ at_seam ds rest b
+pub at_boundary : (ds rest : Text) (b : ℕ) → slice_index (ds ++ b ∷ rest) (length ds) ≡ b
+at_boundary [] rest b = refl
+at_boundary (d ∷ ds) rest b = let e : length (d ∷ ds) ≡ suc (length ds) = omega arith in ap (λ n. slice_index (d ∷ ds ++ b ∷ rest) n) e ∙ at_boundary ds rest b
 
 take_one_more : (n : ℕ) (w : Text) → n < length w → take (suc n) w ≡ take n w ++ slice_index w n ∷ []
 take_one_more n [] h = absurd (omega arith)
@@ -56,17 +56,17 @@ take_one_more (suc n) (b ∷ w) h = ap (λ u. b ∷ u) (take_one_more n w (omega
 -- ---- what the code reads is a piece
 
 abbrev pub Fact : ℕ → ℕ → Text → Piece → Type 0
-Fact good byte bytes (Plain size) = (text : Text) × IsPiece good (take size (byte ∷ bytes)) text × (1 ≤ size) × (size ≤ length (byte ∷ bytes))
-Fact good byte bytes Quote = byte ≡ 34
-Fact good byte bytes Open = (byte ≡ 92) × (slice_index bytes 0 ≡ 40)
-Fact good byte bytes NoForm = Unit {0}
-Fact good byte bytes LineEnd = byte ≡ 10
+Fact valid byte bytes (Plain size) = (text : Text) × IsPiece valid (take size (byte ∷ bytes)) text × (1 ≤ size) × (size ≤ length (byte ∷ bytes))
+Fact valid byte bytes Quote = byte ≡ 34
+Fact valid byte bytes Open = (byte ≡ 92) × (slice_index bytes 0 ≡ 40)
+Fact valid byte bytes Invalid = Unit {0}
+Fact valid byte bytes LineEnd = byte ≡ 10
 
 abbrev digits_test : ℕ → Text → Bool
 digits_test n w = (nat_le 1 n && nat_le n 8) && (slice_index w n == 125 && is_scalar (hex_number 0 (take n w)))
 
-scalar_found : (good n : ℕ) (w : Text) → n ≡ hex_len w → digits_test n w ≡ true → Fact good 92 (117 ∷ 123 ∷ w) (Plain (n + 4))
-scalar_found good n w e q =
+scalar_found : (valid n : ℕ) (w : Text) → n ≡ hex_len w → digits_test n w ≡ true → Fact valid 92 (117 ∷ 123 ∷ w) (Plain (n + 4))
+scalar_found valid n w e q =
     let all = both (nat_le 1 n && nat_le n 8) (slice_index w n == 125 && is_scalar (hex_number 0 (take n w))) q in
     let sizes = both (nat_le 1 n) (nat_le n 8) all.0 in
     let ends = both (slice_index w n == 125) (is_scalar (hex_number 0 (take n w))) all.1 in
@@ -86,34 +86,34 @@ scalar_found good n w e q =
       omega (arith, inside),
     )
 
-scalar_fact : (good : ℕ) (w : Text) → Fact good 92 (117 ∷ 123 ∷ w) (unicode w)
-scalar_fact good w = pick (Fact good 92 (117 ∷ 123 ∷ w)) (digits_test (hex_len w) w) (Plain (hex_len w + 4)) NoForm (scalar_found good (hex_len w) w refl) (λ _. tt)
+scalar_fact : (valid : ℕ) (w : Text) → Fact valid 92 (117 ∷ 123 ∷ w) (unicode w)
+scalar_fact valid w = pick (Fact valid 92 (117 ∷ 123 ∷ w)) (digits_test (hex_len w) w) (Plain (hex_len w + 4)) Invalid (scalar_found valid (hex_len w) w refl) (λ _. tt)
 
-unicode_fact : (good letter : ℕ) (rest : Text) → (letter == 117 && slice_index rest 0 == 123) ≡ true → Fact good 92 (letter ∷ rest) (unicode (drop 1 rest))
-unicode_fact good letter [] q = absurd (let two = both (letter == 117) false q in cc)
-unicode_fact good letter (brace ∷ w) q =
+unicode_fact : (valid letter : ℕ) (rest : Text) → (letter == 117 && slice_index rest 0 == 123) ≡ true → Fact valid 92 (letter ∷ rest) (unicode (drop 1 rest))
+unicode_fact valid letter [] q = absurd (let two = both (letter == 117) false q in cc)
+unicode_fact valid letter (brace ∷ w) q =
     let two = both (letter == 117) (brace == 123) q in
-    subst (λ l. Fact good 92 (l ∷ brace ∷ w) (unicode w)) (sym (equal letter 117 two.0))
-    (subst (λ b. Fact good 92 (117 ∷ b ∷ w) (unicode w)) (sym (equal brace 123 two.1)) (scalar_fact good w))
+    subst (λ l. Fact valid 92 (l ∷ brace ∷ w) (unicode w)) (sym (equal letter 117 two.0))
+    (subst (λ b. Fact valid 92 (117 ∷ b ∷ w) (unicode w)) (sym (equal brace 123 two.1)) (scalar_fact valid w))
 
-escape_fact : (good : ℕ) (bytes : Text) → Fact good 92 bytes (escape bytes)
-escape_fact good [] = tt
-escape_fact good (letter ∷ rest) =
-    pick (Fact good 92 (letter ∷ rest)) (letter == 40) Open _ (λ q. (refl, equal letter 40 q)) (λ _.
-    pick (Fact good 92 (letter ∷ rest)) (is_escape letter) (Plain 2) _ (λ q. (escaped letter ∷ [], inr (inl (letter, refl, refl, q)), omega arith, omega arith)) (λ _.
-    pick (Fact good 92 (letter ∷ rest)) (letter == 117 && slice_index rest 0 == 123) (unicode (drop 1 rest)) NoForm (unicode_fact good letter rest) (λ _. tt)))
+escape_fact : (valid : ℕ) (bytes : Text) → Fact valid 92 bytes (escape bytes)
+escape_fact valid [] = tt
+escape_fact valid (letter ∷ rest) =
+    pick (Fact valid 92 (letter ∷ rest)) (letter == 40) Open _ (λ q. (refl, equal letter 40 q)) (λ _.
+    pick (Fact valid 92 (letter ∷ rest)) (is_escape letter) (Plain 2) _ (λ q. (escaped letter ∷ [], inr (inl (letter, refl, refl, q)), omega arith, omega arith)) (λ _.
+    pick (Fact valid 92 (letter ∷ rest)) (letter == 117 && slice_index rest 0 == 123) (unicode (drop 1 rest)) Invalid (unicode_fact valid letter rest) (λ _. tt)))
 
-plain_of : (good byte : ℕ) → (byte == 34) ≡ false → (byte == 10) ≡ false → (byte == 13) ≡ false → (byte == 92) ≡ false → (nat_le 128 byte && good == 0) ≡ false → is_plain good byte ≡ true
-plain_of good byte a b c d e = grind (arith, common_steps)
+plain_of : (valid byte : ℕ) → (byte == 34) ≡ false → (byte == 10) ≡ false → (byte == 13) ≡ false → (byte == 92) ≡ false → (nat_le 128 byte && valid == 0) ≡ false → is_plain valid byte ≡ true
+plain_of valid byte a b c d e = grind (arith, common_steps)
 
-pub piece_fact : (good byte : ℕ) (bytes : Text) → Fact good byte bytes (piece good (byte ∷ bytes))
-piece_fact good byte bytes =
-    pick (Fact good byte bytes) (byte == 34) Quote _ (equal byte 34) (λ quote.
-    pick (Fact good byte bytes) (byte == 10) LineEnd _ (equal byte 10) (λ line.
-    pick (Fact good byte bytes) (byte == 13) NoForm _ (λ _. tt) (λ return.
-    pick (Fact good byte bytes) (byte == 92) (escape bytes) _ (λ q. subst (λ b. Fact good b bytes (escape bytes)) (sym (equal byte 92 q)) (escape_fact good bytes)) (λ slash.
-    pick (Fact good byte bytes) (nat_le 128 byte && good == 0) NoForm (Plain 1) (λ _. tt)
-    (λ plain. (byte ∷ [], inl (byte, refl, refl, plain_of good byte quote line return slash plain), omega arith, omega arith))))))
+pub piece_fact : (valid byte : ℕ) (bytes : Text) → Fact valid byte bytes (piece valid (byte ∷ bytes))
+piece_fact valid byte bytes =
+    pick (Fact valid byte bytes) (byte == 34) Quote _ (equal byte 34) (λ quote.
+    pick (Fact valid byte bytes) (byte == 10) LineEnd _ (equal byte 10) (λ line.
+    pick (Fact valid byte bytes) (byte == 13) Invalid _ (λ _. tt) (λ return.
+    pick (Fact valid byte bytes) (byte == 92) (escape bytes) _ (λ q. subst (λ b. Fact valid b bytes (escape bytes)) (sym (equal byte 92 q)) (escape_fact valid bytes)) (λ slash.
+    pick (Fact valid byte bytes) (nat_le 128 byte && valid == 0) Invalid (Plain 1) (λ _. tt)
+    (λ plain. (byte ∷ [], inl (byte, refl, refl, plain_of valid byte quote line return slash plain), omega arith, omega arith))))))
 
 -- ---- a piece is read by the code
 
@@ -138,8 +138,8 @@ skip_size true a b h = absurd (cc)
 skip_size false a b h = refl
 
 abbrev IsRead : ℕ → Text → Text → Text → Type 0
-IsRead good bytes text rest =
-    (piece good (bytes ++ rest) ≡ Plain (length bytes)) × (1 ≤ length bytes) × (spoken (bytes ++ rest) ≡ text) × (spoken_len (bytes ++ rest) ≡ length bytes)
+IsRead valid bytes text rest =
+    (piece valid (bytes ++ rest) ≡ Plain (length bytes)) × (1 ≤ length bytes) × (piece_text (bytes ++ rest) ≡ text) × (piece_len (bytes ++ rest) ≡ length bytes)
 
 other_letter : (letter other : ℕ) → is_escape other ≡ false → is_escape letter ≡ true → (letter == other) ≡ false
 other_letter letter other h k = go (letter == other) refl
@@ -148,20 +148,20 @@ other_letter letter other h k = go (letter == other) refl
     go false e = e
     go true e = let same : is_escape letter ≡ is_escape other = ap is_escape (equal letter other e) in absurd (cc)
 
-character_tests : (good byte : ℕ) → is_plain good byte ≡ true → ((byte == 34) ≡ false) × ((byte == 10) ≡ false) × ((byte == 13) ≡ false) × ((byte == 92) ≡ false) × ((nat_le 128 byte && good == 0) ≡ false)
-character_tests good byte h = (grind (arith, common_steps), grind (arith, common_steps), grind (arith, common_steps), grind (arith, common_steps), grind (arith, common_steps))
+character_tests : (valid byte : ℕ) → is_plain valid byte ≡ true → ((byte == 34) ≡ false) × ((byte == 10) ≡ false) × ((byte == 13) ≡ false) × ((byte == 92) ≡ false) × ((nat_le 128 byte && valid == 0) ≡ false)
+character_tests valid byte h = (grind (arith, common_steps), grind (arith, common_steps), grind (arith, common_steps), grind (arith, common_steps), grind (arith, common_steps))
 
-character_read : (good byte : ℕ) (rest : Text) → is_plain good byte ≡ true → IsRead good (byte ∷ []) (byte ∷ []) rest
-character_read good byte rest h =
-    let t = character_tests good byte h in (
-      skip (byte == 34) Quote _ _ t.0 (skip (byte == 10) LineEnd _ _ t.1 (skip (byte == 13) NoForm _ _ t.2 (skip (byte == 92) (escape rest) _ _ t.3 (skip (nat_le 128 byte && good == 0) NoForm (Plain 1) _ t.4 refl)))),
+character_read : (valid byte : ℕ) (rest : Text) → is_plain valid byte ≡ true → IsRead valid (byte ∷ []) (byte ∷ []) rest
+character_read valid byte rest h =
+    let t = character_tests valid byte h in (
+      skip (byte == 34) Quote _ _ t.0 (skip (byte == 10) LineEnd _ _ t.1 (skip (byte == 13) Invalid _ _ t.2 (skip (byte == 92) (escape rest) _ _ t.3 (skip (nat_le 128 byte && valid == 0) Invalid (Plain 1) _ t.4 refl)))),
       omega arith,
       skip_text (byte == 92) _ (byte ∷ []) t.3,
       skip_size (byte == 92) _ 1 t.3,
     )
 
-escape_read : (good letter : ℕ) (rest : Text) → is_escape letter ≡ true → IsRead good (92 ∷ letter ∷ []) (escaped letter ∷ []) rest
-escape_read good letter rest h = (
+escape_read : (valid letter : ℕ) (rest : Text) → is_escape letter ≡ true → IsRead valid (92 ∷ letter ∷ []) (escaped letter ∷ []) rest
+escape_read valid letter rest h = (
   skip (letter == 40) Open _ _ (other_letter letter 40 refl h) (keep (is_escape letter) (Plain 2) _ _ h refl),
   omega arith,
   skip_text (letter == 117) _ (escaped letter ∷ []) (other_letter letter 117 refl h),
@@ -171,33 +171,33 @@ escape_read good letter rest h = (
 test_of : (n b : ℕ) (s : Bool) → 1 ≤ n → n ≤ 8 → b ≡ 125 → s ≡ true → ((nat_le 1 n && nat_le n 8) && (b == 125 && s)) ≡ true
 test_of n b s h k e f = grind (arith, common_steps)
 
-digits_read : (good : ℕ) (digits rest : Text) → list_all (is_in class.Hex) digits ≡ true → 1 ≤ length digits → length digits ≤ 8 → is_scalar (hex_number 0 digits) ≡ true
-    → (piece good (92 ∷ 117 ∷ 123 ∷ (digits ++ 125 ∷ rest)) ≡ Plain (length digits + 4))
-    × (spoken (92 ∷ 117 ∷ 123 ∷ (digits ++ 125 ∷ rest)) ≡ encode_utf8 (hex_number 0 digits))
-    × (spoken_len (92 ∷ 117 ∷ 123 ∷ (digits ++ 125 ∷ rest)) ≡ length digits + 4)
-digits_read good digits rest hex least most scalar =
+digits_read : (valid : ℕ) (digits rest : Text) → list_all (is_in class.Hex) digits ≡ true → 1 ≤ length digits → length digits ≤ 8 → is_scalar (hex_number 0 digits) ≡ true
+    → (piece valid (92 ∷ 117 ∷ 123 ∷ (digits ++ 125 ∷ rest)) ≡ Plain (length digits + 4))
+    × (piece_text (92 ∷ 117 ∷ 123 ∷ (digits ++ 125 ∷ rest)) ≡ encode_utf8 (hex_number 0 digits))
+    × (piece_len (92 ∷ 117 ∷ 123 ∷ (digits ++ 125 ∷ rest)) ≡ length digits + 4)
+digits_read valid digits rest hex least most scalar =
     let w = digits ++ 125 ∷ rest in
     let len : hex_len (digits ++ 125 ∷ rest) ≡ length digits = run_to (is_in class.Hex) digits rest 125 hex refl in
     let taken : take (length digits) (digits ++ 125 ∷ rest) ≡ digits = take-append_seam digits (125 ∷ rest) in
     let named : is_scalar (hex_number 0 (take (length digits) (digits ++ 125 ∷ rest))) ≡ true = ap (λ u. is_scalar (hex_number 0 u)) taken ∙ scalar in (
-      ap (λ n. cond (digits_test n (digits ++ 125 ∷ rest)) (Plain (n + 4)) NoForm) len
-          ∙ keep _ (Plain (length digits + 4)) NoForm _ (test_of (length digits) (slice_index (digits ++ 125 ∷ rest) (length digits)) _ least most (at_seam digits rest 125) named) refl,
+      ap (λ n. cond (digits_test n (digits ++ 125 ∷ rest)) (Plain (n + 4)) Invalid) len
+          ∙ keep _ (Plain (length digits + 4)) Invalid _ (test_of (length digits) (slice_index (digits ++ 125 ∷ rest) (length digits)) _ least most (at_boundary digits rest 125) named) refl,
       ap (λ n. scalar_text (hex_number 0 (take n (digits ++ 125 ∷ rest)))) len ∙ ap (λ u. scalar_text (hex_number 0 u)) taken ∙ keep_text (is_scalar (hex_number 0 digits)) (encode_utf8 (hex_number 0 digits)) [] scalar,
       ap (λ n. n + 4) len,
     )
 
-scalar_read : (good : ℕ) (digits rest : Text) → list_all (is_in class.Hex) digits ≡ true → 1 ≤ length digits → length digits ≤ 8 → is_scalar (hex_number 0 digits) ≡ true
-    → IsRead good (92 ∷ 117 ∷ 123 ∷ (digits ++ 125 ∷ [])) (encode_utf8 (hex_number 0 digits)) rest
-scalar_read good digits rest hex least most scalar =
-    let r = digits_read good digits rest hex least most scalar in
+scalar_read : (valid : ℕ) (digits rest : Text) → list_all (is_in class.Hex) digits ≡ true → 1 ≤ length digits → length digits ≤ 8 → is_scalar (hex_number 0 digits) ≡ true
+    → IsRead valid (92 ∷ 117 ∷ 123 ∷ (digits ++ 125 ∷ [])) (encode_utf8 (hex_number 0 digits)) rest
+scalar_read valid digits rest hex least most scalar =
+    let r = digits_read valid digits rest hex least most scalar in
     let joined : (92 ∷ 117 ∷ 123 ∷ (digits ++ 125 ∷ [])) ++ rest ≡ 92 ∷ 117 ∷ 123 ∷ (digits ++ 125 ∷ rest) = ap (λ u. 92 ∷ 117 ∷ 123 ∷ u) (append_assoc digits (125 ∷ []) rest) in
     let len : length digits + 4 ≡ length (92 ∷ 117 ∷ 123 ∷ (digits ++ 125 ∷ [])) = omega (arith, length-append digits (125 ∷ [])) in
-    (ap (piece good) joined ∙ r.0 ∙ ap Plain len, omega (arith, len), ap spoken joined ∙ r.1, ap spoken_len joined ∙ r.2 ∙ len)
+    (ap (piece valid) joined ∙ r.0 ∙ ap Plain len, omega (arith, len), ap piece_text joined ∙ r.1, ap piece_len joined ∙ r.2 ∙ len)
 
-pub piece_read : (good : ℕ) (bytes text rest : Text) → IsPiece good bytes text → IsRead good bytes text rest
-piece_read good bytes text rest (inl h) =
-    subst (λ u. IsRead good u text rest) (sym h.1) (subst (λ v. IsRead good (h.0 ∷ []) v rest) (sym h.2) (character_read good h.0 rest h.3))
-piece_read good bytes text rest (inr (inl h)) =
-    subst (λ u. IsRead good u text rest) (sym h.1) (subst (λ v. IsRead good (92 ∷ h.0 ∷ []) v rest) (sym h.2) (escape_read good h.0 rest h.3))
-piece_read good bytes text rest (inr (inr h)) =
-    subst (λ u. IsRead good u text rest) (sym h.1) (subst (λ v. IsRead good (92 ∷ 117 ∷ 123 ∷ (h.0 ++ 125 ∷ [])) v rest) (sym h.2) (scalar_read good h.0 rest h.3 h.4 h.5 h.6))
+pub piece_read : (valid : ℕ) (bytes text rest : Text) → IsPiece valid bytes text → IsRead valid bytes text rest
+piece_read valid bytes text rest (inl h) =
+    subst (λ u. IsRead valid u text rest) (sym h.1) (subst (λ v. IsRead valid (h.0 ∷ []) v rest) (sym h.2) (character_read valid h.0 rest h.3))
+piece_read valid bytes text rest (inr (inl h)) =
+    subst (λ u. IsRead valid u text rest) (sym h.1) (subst (λ v. IsRead valid (92 ∷ h.0 ∷ []) v rest) (sym h.2) (escape_read valid h.0 rest h.3))
+piece_read valid bytes text rest (inr (inr h)) =
+    subst (λ u. IsRead valid u text rest) (sym h.1) (subst (λ v. IsRead valid (92 ∷ 117 ∷ 123 ∷ (h.0 ++ 125 ∷ [])) v rest) (sym h.2) (scalar_read valid h.0 rest h.3 h.4 h.5 h.6))

@@ -7,18 +7,18 @@ use mathlib.Core.Logic.{inl, inr}
 use Rattle.std.specs.List.{prefix_len}
 use Rattle.sw_lex.specs.declared.bytes.Class.TheVariants as class
 use Rattle.sw_lex.specs.declared.token.TokenKind.{TokenKind}
-use Rattle.sw_lex.specs.declared.forms.Begin.{Begin}
-use Rattle.sw_lex.specs.declared.forms.Begin.TheVariants.{End, Gap, Token, Formless, Unclosed}
+use Rattle.sw_lex.specs.declared.lexemes.Lexeme.{Lexeme}
+use Rattle.sw_lex.specs.declared.lexemes.Lexeme.TheVariants.{End, Gap, Token, Malformed, Unterminated}
 use Rattle.sw_lex.specs.Bytes.{Text, is_in}
 use Rattle.sw_lex.specs.Tables.{Table, IsListed, marks}
 use Rattle.sw_lex.specs.Strings.{bytes_of}
 use Rattle.sw_lex.specs.Comments.{Closes, ends, passes, nests}
-use Rattle.sw_lex.specs.Forms.{Begins, HasForm, IsBlockComment, IsLineComment, IsMark, IsStop, IsString, first, opening, second, size_of}
+use Rattle.sw_lex.specs.Lexemes.{BeginsWith, HasForm, IsBlockComment, IsLineComment, IsMark, IsStop, IsString, first, opening, second, size_of}
 use Rattle.sw_lex.specs.Cut.{Opens, Cut, after, closes, is_inside, total}
-use Rattle.sw_lex.specs.Reading.{begins, has_no_empty}
+use Rattle.sw_lex.specs.Matching.{first_lexeme, has_no_empty}
 use Rattle.sw_lex.proofs.PieceLemmas.{both, equal}
-use Rattle.sw_lex.proofs.MarkLemmas.{front_is}
-use Rattle.sw_lex.proofs.ReadingLemmas.{reads}
+use Rattle.sw_lex.proofs.MarkLemmas.{prefix_is}
+use Rattle.sw_lex.proofs.MatchingLemmas.{reads}
 
 -- so many bytes are some of these
 abbrev Fits : Text → ℕ → Type 0
@@ -69,8 +69,8 @@ block_fits inside z size h = (omega (arith, h.4, ap length h.2, closes_shorter h
 
 -- ---- strings
 
-string_fits : (mark good : ℕ) (closing z : Text) (size : ℕ) → IsString mark closing good z size → Fits z size
-string_fits mark good closing z size h = (
+string_fits : (mark valid : ℕ) (closing z : Text) (size : ℕ) → IsString mark closing valid z size → Fits z size
+string_fits mark valid closing z size h = (
   omega (arith, h.4),
   omega (arith, h.4, ap length h.2, length-append (bytes_of h.0) (closing ++ h.1), length-append closing h.1),
 )
@@ -92,65 +92,65 @@ listed_some (entry ∷ table) text kind h (inr l) = listed_some table text kind 
 mark_fits : (closing : Bool) (z : Text) (kind : TokenKind) (size : ℕ) → IsMark closing z kind size → Fits z size
 mark_fits closing z kind size h = (
   omega (arith, h.3, listed_some marks h.0 kind marks_some h.1),
-  omega (arith, h.3, ap length (front_is h.0 z h.2), length-take (length h.0) z),
+  omega (arith, h.3, ap length (prefix_is h.0 z h.2), length-take (length h.0) z),
 )
 
 -- ---- all of them
 
-form_fits : (inside closing : Bool) (good : ℕ) (z : Text) (item : Begin) → HasForm inside closing good z item → IsStop item ⊎ Fits z (size_of item)
-form_fits inside closing good z End h = inl tt
-form_fits inside closing good z (Gap size) (inl h) = inr (omega (arith, h.0), omega (arith, h.0, space_some z h.2))
-form_fits inside closing good z (Gap size) (inr (inl h)) = inr (line_fits z size h)
-form_fits inside closing good z (Gap size) (inr (inr h)) = inr (block_fits inside z size h)
-form_fits inside closing good z (Token kind size) (inl h) = inr (run_fits (is_in class.Name) z size h.1 (name_some z h.0) (start_name (first z) h.0))
-form_fits inside closing good z (Token kind size) (inr (inl h)) = inr (run_fits (is_in class.Integer) z size h.1 (digit_some z h.0) (digit_integer (first z) h.0))
-form_fits inside closing good z (Token kind size) (inr (inr (inl (h, inl s)))) = inr (string_fits 34 good (34 ∷ []) z size s.1)
-form_fits inside closing good z (Token kind size) (inr (inr (inl (h, inr s)))) = inr (string_fits 34 good opening z size s.1)
-form_fits inside closing good z (Token kind size) (inr (inr (inr (inl (c, inl s))))) = inr (string_fits 41 good (34 ∷ []) z size s.1)
-form_fits inside closing good z (Token kind size) (inr (inr (inr (inl (c, inr s))))) = inr (string_fits 41 good opening z size s.1)
-form_fits inside closing good z (Token kind size) (inr (inr (inr (inr h)))) = inr (mark_fits closing z kind size h)
-form_fits inside closing good z Formless h = inl tt
-form_fits inside closing good z Unclosed h = inl tt
+form_fits : (inside closing : Bool) (valid : ℕ) (z : Text) (item : Lexeme) → HasForm inside closing valid z item → IsStop item ⊎ Fits z (size_of item)
+form_fits inside closing valid z End h = inl tt
+form_fits inside closing valid z (Gap size) (inl h) = inr (omega (arith, h.0), omega (arith, h.0, space_some z h.2))
+form_fits inside closing valid z (Gap size) (inr (inl h)) = inr (line_fits z size h)
+form_fits inside closing valid z (Gap size) (inr (inr h)) = inr (block_fits inside z size h)
+form_fits inside closing valid z (Token kind size) (inl h) = inr (run_fits (is_in class.Name) z size h.1 (name_some z h.0) (start_name (first z) h.0))
+form_fits inside closing valid z (Token kind size) (inr (inl h)) = inr (run_fits (is_in class.Integer) z size h.1 (digit_some z h.0) (digit_integer (first z) h.0))
+form_fits inside closing valid z (Token kind size) (inr (inr (inl (h, inl s)))) = inr (string_fits 34 valid (34 ∷ []) z size s.1)
+form_fits inside closing valid z (Token kind size) (inr (inr (inl (h, inr s)))) = inr (string_fits 34 valid opening z size s.1)
+form_fits inside closing valid z (Token kind size) (inr (inr (inr (inl (c, inl s))))) = inr (string_fits 41 valid (34 ∷ []) z size s.1)
+form_fits inside closing valid z (Token kind size) (inr (inr (inr (inl (c, inr s))))) = inr (string_fits 41 valid opening z size s.1)
+form_fits inside closing valid z (Token kind size) (inr (inr (inr (inr h)))) = inr (mark_fits closing z kind size h)
+form_fits inside closing valid z Malformed h = inl tt
+form_fits inside closing valid z Unterminated h = inl tt
 
-item_fits : (inside closing : Bool) (good : ℕ) (z : Text) (item : Begin) → Begins inside closing good z item → IsStop item ⊎ Fits z (size_of item)
-item_fits inside closing good z End h = inl tt
-item_fits inside closing good z (Gap size) h = form_fits inside closing good z (Gap size) h
-item_fits inside closing good z (Token kind size) h = form_fits inside closing good z (Token kind size) h
-item_fits inside closing good z Formless h = inl tt
-item_fits inside closing good z Unclosed h = inl tt
+item_fits : (inside closing : Bool) (valid : ℕ) (z : Text) (item : Lexeme) → BeginsWith inside closing valid z item → IsStop item ⊎ Fits z (size_of item)
+item_fits inside closing valid z End h = inl tt
+item_fits inside closing valid z (Gap size) h = form_fits inside closing valid z (Gap size) h
+item_fits inside closing valid z (Token kind size) h = form_fits inside closing valid z (Token kind size) h
+item_fits inside closing valid z Malformed h = inl tt
+item_fits inside closing valid z Unterminated h = inl tt
 
 -- a cut of these bytes
-pub record SomeCut (opens : Opens) (good : ℕ) (z : Text) : Type 0 where
-  pub items : List Begin
-  pub stop : Begin
-  pub cut : Cut opens good z items stop
+pub record SomeCut (opens : Opens) (valid : ℕ) (z : Text) : Type 0 where
+  pub items : List Lexeme
+  pub stop : Lexeme
+  pub cut : Cut opens valid z items stop
   pub within : total items ≤ length z
 
-stopped : (opens : Opens) (good : ℕ) (z : Text) (stop : Begin) → Begins (is_inside opens) (closes opens) good z stop → IsStop stop → SomeCut opens good z
-stopped opens good z stop h s = record { items = []; stop = stop; cut = (h, s); within = omega arith }
+stopped : (opens : Opens) (valid : ℕ) (z : Text) (stop : Lexeme) → BeginsWith (is_inside opens) (closes opens) valid z stop → IsStop stop → SomeCut opens valid z
+stopped opens valid z stop h s = record { items = []; stop = stop; cut = (h, s); within = omega arith }
 
-one_more : (opens : Opens) (good : ℕ) (z : Text) (item : Begin) → Begins (is_inside opens) (closes opens) good z item → Fits z (size_of item)
-    → SomeCut (after opens item) (good - size_of item) (drop (size_of item) z) → SomeCut opens good z
-one_more opens good z item h f rest = record {
+one_more : (opens : Opens) (valid : ℕ) (z : Text) (item : Lexeme) → BeginsWith (is_inside opens) (closes opens) valid z item → Fits z (size_of item)
+    → SomeCut (after opens item) (valid - size_of item) (drop (size_of item) z) → SomeCut opens valid z
+one_more opens valid z item h f rest = record {
   items = item ∷ rest.items;
   stop = rest.stop;
   cut = (h, f.0, rest.cut);
   within = omega (arith, rest.within, f.1, length-drop (size_of item) z);
 }
 
-cut_up_to : (n : ℕ) (opens : Opens) (good : ℕ) (z : Text) → length z ≤ n → SomeCut opens good z
-cut_up_to zero opens good z l =
-    let item : Begin = begins (is_inside opens) (closes opens) good z in
-    let begun = reads (is_inside opens) (closes opens) good z in
-    elim (item_fits (is_inside opens) (closes opens) good z _ begun) [ inl s ↦ stopped opens good z _ begun s | inr f ↦ absurd (omega (arith, f.0, f.1, l)) ]
-cut_up_to (suc n) opens good z l =
-    let begun = reads (is_inside opens) (closes opens) good z in
-    elim (item_fits (is_inside opens) (closes opens) good z _ begun) [
-      | inl s ↦ stopped opens good z _ begun s
-      | inr f ↦ one_more opens good z _ begun f (cut_up_to n (after opens (begins (is_inside opens) (closes opens) good z)) (good - size_of (begins (is_inside opens) (closes opens) good z)) (drop (size_of (begins (is_inside opens) (closes opens) good z)) z)
-          (omega (arith, l, f.0, f.1, length-drop (size_of (begins (is_inside opens) (closes opens) good z)) z)))
+cut_up_to : (n : ℕ) (opens : Opens) (valid : ℕ) (z : Text) → length z ≤ n → SomeCut opens valid z
+cut_up_to zero opens valid z l =
+    let item : Lexeme = first_lexeme (is_inside opens) (closes opens) valid z in
+    let begun = reads (is_inside opens) (closes opens) valid z in
+    elim (item_fits (is_inside opens) (closes opens) valid z _ begun) [ inl s ↦ stopped opens valid z _ begun s | inr f ↦ absurd (omega (arith, f.0, f.1, l)) ]
+cut_up_to (suc n) opens valid z l =
+    let begun = reads (is_inside opens) (closes opens) valid z in
+    elim (item_fits (is_inside opens) (closes opens) valid z _ begun) [
+      | inl s ↦ stopped opens valid z _ begun s
+      | inr f ↦ one_more opens valid z _ begun f (cut_up_to n (after opens (first_lexeme (is_inside opens) (closes opens) valid z)) (valid - size_of (first_lexeme (is_inside opens) (closes opens) valid z)) (drop (size_of (first_lexeme (is_inside opens) (closes opens) valid z)) z)
+          (omega (arith, l, f.0, f.1, length-drop (size_of (first_lexeme (is_inside opens) (closes opens) valid z)) z)))
     ]
 
 -- the bytes have a cut
-pub some_cut : (opens : Opens) (good : ℕ) (z : Text) → SomeCut opens good z
-some_cut opens good z = cut_up_to (length z) opens good z (omega arith)
+pub some_cut : (opens : Opens) (valid : ℕ) (z : Text) → SomeCut opens valid z
+some_cut opens valid z = cut_up_to (length z) opens valid z (omega arith)

@@ -4,7 +4,7 @@ use Rattle.std.proofs.Common.{◌<◌, append_assoc, length-drop, ◌≡◌, ◌
 use Rattle.sw_lex.specs.declared.strings.Piece.TheVariants.{Plain}
 use Rattle.std.specs.Prelude.{slice_index, ◌==◌, Bool, true, false, cond, length, ◌++◌}
 use Rattle.sw_lex.specs.Bytes.{Text}
-use Rattle.sw_lex.specs.Reading.{piece, pieces, after_piece, hex_len, decoded, spoken, spoken_len}
+use Rattle.sw_lex.specs.Matching.{piece, pieces, after_piece, hex_len, decoded, piece_text, piece_len}
 
 skipped : (k n g : ℕ) (z : Text) → pieces k n g z ≡ pieces 0 (n + k) (g - k) (drop k z)
 skipped zero n g z = let a : n + 0 ≡ n = omega arith in let b : g - 0 ≡ g = omega arith in rw (a, b)
@@ -34,11 +34,11 @@ passed zero z = refl
 passed (suc k) [] = refl
 passed (suc k) (b ∷ z) = passed k z
 
-pub decoded_more : (z : Text) → 1 ≤ length z → decoded 0 z ≡ spoken z ++ decoded 0 (drop (spoken_len z) z)
+pub decoded_more : (z : Text) → 1 ≤ length z → decoded 0 z ≡ piece_text z ++ decoded 0 (drop (piece_len z) z)
 decoded_more [] h = absurd (omega arith)
-decoded_more (b ∷ z) h = ap (λ u. spoken (b ∷ z) ++ u) (passed (spoken_len (b ∷ z) - 1) z ∙ ap (λ u. decoded 0 u) (drop_one (spoken_len (b ∷ z)) b z (some b z)))
+decoded_more (b ∷ z) h = ap (λ u. piece_text (b ∷ z) ++ u) (passed (piece_len (b ∷ z) - 1) z ∙ ap (λ u. decoded 0 u) (drop_one (piece_len (b ∷ z)) b z (some b z)))
   where
-    some : (b : ℕ) (z : Text) → 1 ≤ spoken_len (b ∷ z)
+    some : (b : ℕ) (z : Text) → 1 ≤ piece_len (b ∷ z)
     some b z = branch (slice_index (b ∷ z) 0 == 92) (slice_index (b ∷ z) 1 == 117)
       where
         branch : (s t : Bool) → 1 ≤ cond s (cond t (hex_len (drop 3 (b ∷ z)) + 4) 2) 1
@@ -46,10 +46,10 @@ decoded_more (b ∷ z) h = ap (λ u. spoken (b ∷ z) ++ u) (passed (spoken_len 
         branch true false = omega arith
         branch false t = omega arith
 
-pub decoded_step : (z out out' : Text) (at n : ℕ) → at < length z → out' ≡ out ++ spoken (drop at z) → n ≡ spoken_len (drop at z) → out ++ decoded 0 (drop at z) ≡ decoded 0 z → out' ++ decoded 0 (drop (at + n) z) ≡ decoded 0 z
+pub decoded_step : (z out out' : Text) (at n : ℕ) → at < length z → out' ≡ out ++ piece_text (drop at z) → n ≡ piece_len (drop at z) → out ++ decoded 0 (drop at z) ≡ decoded 0 z → out' ++ decoded 0 (drop (at + n) z) ≡ decoded 0 z
 decoded_step z out out' at n h o e inv =
     let y : Text = drop at z in
     let some : 1 ≤ length (drop at z) = omega (arith, length-drop at z) in
-    let back : spoken (drop at z) ++ decoded 0 (drop (at + n) z) ≡ decoded 0 (drop at z) =
-    ap (λ w. spoken (drop at z) ++ decoded 0 w) (sym (drop-drop n at z) ∙ ap (λ k. drop k (drop at z)) e) ∙ sym (decoded_more (drop at z) some) in
-    ap (λ u. u ++ decoded 0 (drop (at + n) z)) o ∙ append_assoc out (spoken (drop at z)) (decoded 0 (drop (at + n) z)) ∙ ap (λ u. out ++ u) back ∙ inv
+    let back : piece_text (drop at z) ++ decoded 0 (drop (at + n) z) ≡ decoded 0 (drop at z) =
+    ap (λ w. piece_text (drop at z) ++ decoded 0 w) (sym (drop-drop n at z) ∙ ap (λ k. drop k (drop at z)) e) ∙ sym (decoded_more (drop at z) some) in
+    ap (λ u. u ++ decoded 0 (drop (at + n) z)) o ∙ append_assoc out (piece_text (drop at z)) (decoded 0 (drop (at + n) z)) ∙ ap (λ u. out ++ u) back ∙ inv

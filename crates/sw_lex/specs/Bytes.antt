@@ -1,4 +1,5 @@
--- A text is a list of bytes. Some bytes by name, and the classes of bytes that tokens are made of.
+-- A text is a list of bytes. Some bytes by name, and the classes of bytes that tokens are made of; a class is a type of
+-- the code.
 use Rattle.std.specs.Prelude.{ℕ, Bool, not, ◌||◌, ◌==◌, List}
 use Rattle.std.specs.Char.{is_ascii_digit, is_ascii_alphabetic, is_ascii_hexdigit}
 use Rattle.std.specs.List.{list_any}

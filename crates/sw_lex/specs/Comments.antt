@@ -6,7 +6,7 @@ use Rattle.sw_lex.specs.Bytes.{Text, star, slash}
 abbrev pub is_comment_mark : ℕ → Text → Bool
 is_comment_mark byte bytes = (byte == slash && slice_index bytes 0 == star) || (byte == star && slice_index bytes 0 == slash)
 
--- The bytes behind a `/*` are the comment's inside, its `*/`, and then the `rest`. The inside is a sequence of bytes at
+-- The bytes after a `/*` are the comment's inside, its `*/`, and then the `rest`. The inside is a sequence of bytes at
 -- which no mark begins, and of whole comments.
 pub data Closes : Text → Text → Type 0 where
   ends : {rest : Text} → Closes (star ∷ slash ∷ rest) rest

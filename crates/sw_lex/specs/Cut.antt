@@ -3,10 +3,10 @@ use Rattle.std.specs.Prelude.{◌≡◌, ◌<◌, ◌⊎◌, ℕ, ◌+◌, ◌-�
 use Rattle.std.specs.Str.{IsUtf8, IsValidUpTo}
 use Rattle.sw_lex.specs.declared.token.TokenKind.{TokenKind}
 use Rattle.sw_lex.specs.declared.token.TokenKind.TheVariants as k
-use Rattle.sw_lex.specs.declared.forms.Begin.{Begin}
-use Rattle.sw_lex.specs.declared.forms.Begin.TheVariants.{Token}
+use Rattle.sw_lex.specs.declared.lexemes.Lexeme.{Lexeme}
+use Rattle.sw_lex.specs.declared.lexemes.Lexeme.TheVariants.{Token}
 use Rattle.sw_lex.specs.Bytes.{Text}
-use Rattle.sw_lex.specs.Forms.{Begins, size_of, IsStop}
+use Rattle.sw_lex.specs.Lexemes.{BeginsWith, size_of, IsStop}
 
 -- the brackets that are open within the outermost string, the innermost first; `\(` is true
 abbrev pub Opens : Type 0
@@ -21,7 +21,7 @@ abbrev pub closes : Opens → Bool
 closes [] = false
 closes (bracket ∷ opens) = bracket
 
--- the brackets that are open behind a token
+-- the brackets that are open after a token
 abbrev pub after_kind : Opens → TokenKind → Opens
 after_kind opens k.StringStart = true ∷ opens
 after_kind opens k.StringLast = drop 1 opens
@@ -29,48 +29,48 @@ after_kind opens k.LeftParen = if is_inside opens then false ∷ opens else open
 after_kind opens k.RightParen = drop 1 opens
 after_kind opens kind = opens
 
-abbrev pub after : Opens → Begin → Opens
+abbrev pub after : Opens → Lexeme → Opens
 after opens (Token kind size) = after_kind opens kind
-after opens begin = opens
+after opens lexeme = opens
 
--- The bytes are cut into these gaps and tokens: each is what begins where the one before it ends, and behind the last
+-- The bytes are cut into these gaps and tokens: each is what begins where the one before it ends, and after the last
 -- stands what is no gap and no token.
-abbrev pub Cut : Opens → ℕ → Text → List Begin → Begin → Type 0
-Cut opens good bytes [] stop = Begins (is_inside opens) (closes opens) good bytes stop × IsStop stop
-Cut opens good bytes (item ∷ items) stop =
-    Begins (is_inside opens) (closes opens) good bytes item
+abbrev pub Cut : Opens → ℕ → Text → List Lexeme → Lexeme → Type 0
+Cut opens valid bytes [] stop = BeginsWith (is_inside opens) (closes opens) valid bytes stop × IsStop stop
+Cut opens valid bytes (item ∷ items) stop =
+    BeginsWith (is_inside opens) (closes opens) valid bytes item
     × (0 < size_of item)
-    × Cut (after opens item) (good - size_of item) (drop (size_of item) bytes) items stop
+    × Cut (after opens item) (valid - size_of item) (drop (size_of item) bytes) items stop
 
--- the first so many bytes are characters, and no more are
-abbrev pub IsGood : Text → ℕ → Type 0
-IsGood source good = ((good ≡ length source) × IsUtf8 source) ⊎ IsValidUpTo source good
+-- the first so many bytes are characters (they are UTF-8), and no more are
+abbrev pub IsValidPrefix : Text → ℕ → Type 0
+IsValidPrefix source valid = ((valid ≡ length source) × IsUtf8 source) ⊎ IsValidUpTo source valid
 
 -- a cut of a source
 pub record CutOf (source : Text) : Type 0 where
-  pub good : ℕ
-  pub items : List Begin
-  pub stop : Begin
-  pub front : IsGood source good
-  pub cut : Cut [] good source items stop
+  pub valid : ℕ
+  pub items : List Lexeme
+  pub stop : Lexeme
+  pub prefix : IsValidPrefix source valid
+  pub cut : Cut [] valid source items stop
 
 -- how many bytes the gaps and tokens have
-abbrev pub total : List Begin → ℕ
+abbrev pub total : List Lexeme → ℕ
 total [] = 0
 total (item ∷ items) = size_of item + total items
 
--- the brackets that are open behind these
-abbrev pub open_behind : Opens → List Begin → Opens
-open_behind opens [] = opens
-open_behind opens (item ∷ items) = open_behind (after opens item) items
+-- the brackets that are open after these
+abbrev pub open_after : Opens → List Lexeme → Opens
+open_after opens [] = opens
+open_after opens (item ∷ items) = open_after (after opens item) items
 
--- whether a string is open behind the first so many
-abbrev pub is_open_behind : List Begin → ℕ → Bool
-is_open_behind items count = is_inside (open_behind [] (take count items))
+-- whether a string is open after the first so many
+abbrev pub is_open_after : List Lexeme → ℕ → Bool
+is_open_after items count = is_inside (open_after [] (take count items))
 
 -- this gap or token is one of these, and stands at the offset where those before it end
-pub record StandsAt (items : List Begin) (at : ℕ) (item : Begin) : Type 0 where
-  pub before : List Begin
-  pub behind : List Begin
-  pub split : items ≡ before ++ item ∷ behind
+pub record StandsAt (items : List Lexeme) (at : ℕ) (item : Lexeme) : Type 0 where
+  pub before : List Lexeme
+  pub following : List Lexeme
+  pub split : items ≡ before ++ item ∷ following
   pub ends : total before ≡ at

@@ -23,6 +23,6 @@ abbrev pub AreKept : List Text → List Entry → Type 0
 AreKept texts [] = Unit {0}
 AreKept texts (entry ∷ entries) = (entry.text < length texts) × AreKept texts entries
 
--- the texts, and perhaps more behind them
+-- the texts, and perhaps more after them
 abbrev pub IsGrown : List Text → List Text → Type 0
 IsGrown old new = (more : List Text) × (new ≡ old ++ more)

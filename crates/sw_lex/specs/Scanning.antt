@@ -1,22 +1,22 @@
--- Machinery, for private contracts alone: what the code knows of a source behind the gaps and tokens that it has cut so far,
--- and behind all of them.
+-- Machinery, for private contracts alone: what the code knows of a source after the gaps and tokens that it has cut so far,
+-- and after all of them.
 use Rattle.std.specs.Prelude.{◌≡◌, ◌≤◌, ◌<◌, ℕ, ◌+◌, ◌-◌, if◌then◌else◌, ◌==◌, List, [], ◌∷◌, ◌++◌, take, drop, length, Option, Some, None, IfSome}
 use Rattle.std.specs.Str.Lossy.{utf8_valid_len}
 use Rattle.sw_base.specs.declared.ids.Span.{Span}
 use Rattle.sw_rules.specs.declared.Rule.{Rule}
 use Rattle.sw_lex.specs.declared.token.TokenKind.TheVariants as k
-use Rattle.sw_lex.specs.declared.forms.Begin.{Begin}
+use Rattle.sw_lex.specs.declared.lexemes.Lexeme.{Lexeme}
 use Rattle.sw_lex.specs.declared.places.Spot.{Spot}
-use Rattle.sw_lex.specs.declared.telling.Told.{Told}
+use Rattle.sw_lex.specs.declared.emit.TokenWriter.{TokenWriter}
 use Rattle.sw_lex.specs.declared.scan.Scan.{Scan}
 use Rattle.sw_lex.specs.Bytes.{Text}
-use Rattle.sw_lex.specs.Characters.{IsFront}
-use Rattle.sw_lex.specs.Forms.{size_of, IsStop}
-use Rattle.sw_lex.specs.Reading.{begins}
+use Rattle.sw_lex.specs.Characters.{IsFirstBad}
+use Rattle.sw_lex.specs.Lexemes.{size_of, IsStop}
+use Rattle.sw_lex.specs.Matching.{first_lexeme}
 use Rattle.sw_lex.specs.Cut.{Opens, Cut, closes, is_inside, total}
-use Rattle.sw_lex.specs.Tokens.{beyond, moved, origin, place_at, start, token_at}
-use Rattle.sw_lex.specs.Telling.{said, told}
-use Rattle.sw_lex.specs.Finding.{Found, is_too_large, large_at, stop_at}
+use Rattle.sw_lex.specs.Tokens.{here_after, moved, origin, place_at, start, token_at}
+use Rattle.sw_lex.specs.Emitted.{emission, emitted}
+use Rattle.sw_lex.specs.FirstBroken.{Found, is_too_large, large_at, stop_at}
 
 -- ---- places
 
@@ -35,36 +35,36 @@ end_of size last = if size == 0 then origin else record { line = last.line; colu
 -- ---- what the code keeps, and how it goes on
 
 -- before the first gap or token
-abbrev pub nothing_told : Told
-nothing_told = record { tokens = []; here = start; last = origin }
+abbrev pub new_writer : TokenWriter
+new_writer = record { tokens = []; here = start; last = origin }
 
 abbrev pub nothing_cut : Scan
-nothing_cut = record { at = 0; opens = []; outer = record { at = 0; place = origin }; bad = None; large = None; told = nothing_told }
+nothing_cut = record { at = 0; opens = []; outer = record { at = 0; place = origin }; bad = None; large = None; emitted = new_writer }
 
--- behind the gap or token that begins with these bytes
-abbrev pub told_behind : Told → Text → Begin → Told
-told_behind so_far bytes item = record {
-  tokens = so_far.tokens ++ said so_far.here bytes item;
-  here = beyond so_far.here bytes item;
+-- after the gap or token that begins with these bytes
+abbrev pub writer_after : TokenWriter → Text → Lexeme → TokenWriter
+writer_after so_far bytes item = record {
+  tokens = so_far.tokens ++ emission so_far.here bytes item;
+  here = here_after so_far.here bytes item;
   last = moved so_far.here.place (take (size_of item - 1) bytes);
 }
 
--- where the outermost string begins that is open behind what begins here, if one is
+-- where the outermost string begins that is open after what begins here, if one is
 abbrev pub outermost : Opens → Spot → Spot → Spot
 outermost opens outer here = if is_inside opens then outer else here
 
 -- the first integer that is too large, where it was found before or begins here
-abbrev pub first_large : Option Spot → Text → Begin → Spot → Option Spot
+abbrev pub first_large : Option Spot → Text → Lexeme → Spot → Option Spot
 first_large None bytes item here = if is_too_large bytes item then Some here else None
 first_large (Some spot) bytes item here = Some spot
 
 -- where it goes on
 abbrev pub here : Scan → Spot
-here scan = record { at = scan.at; place = scan.told.here.place }
+here scan = record { at = scan.at; place = scan.emitted.here.place }
 
 -- what begins there
-abbrev pub next : Scan → Text → Begin
-next scan source = begins (is_inside scan.opens) (closes scan.opens) (utf8_valid_len source - scan.at) (drop scan.at source)
+abbrev pub next : Scan → Text → Lexeme
+next scan source = first_lexeme (is_inside scan.opens) (closes scan.opens) (utf8_valid_len source - scan.at) (drop scan.at source)
 
 -- ---- what is known
 
@@ -84,33 +84,33 @@ stop_of scan = if is_inside scan.opens then scan.outer.at else scan.at
 
 -- the places of what was met so far
 pub record ArePlaces (source : Text) (scan : Scan) : Type 0 where
-  pub here : scan.told.here.place ≡ place_at source scan.at
-  pub last : 0 < scan.at → scan.told.last ≡ place_at source (scan.at - 1)
+  pub here : scan.emitted.here.place ≡ place_at source scan.at
+  pub last : 0 < scan.at → scan.emitted.last ≡ place_at source (scan.at - 1)
   pub outer : IsSpot source scan.outer
   pub bad : IfSome scan.bad (IsSpot source)
   pub large : IfSome scan.large (IsSpot source)
 
 -- The source begins with these gaps and tokens, and what is kept goes on as it would from its start.
 pub record Known (source : Text) (scan : Scan) : Type 0 where
-  pub items : List Begin
-  pub cut : (later : List Begin) (stop : Begin) → Cut scan.opens (utf8_valid_len source - scan.at) (drop scan.at source) later stop → Cut [] (utf8_valid_len source) source (items ++ later) stop
+  pub items : List Lexeme
+  pub cut : (later : List Lexeme) (stop : Lexeme) → Cut scan.opens (utf8_valid_len source - scan.at) (drop scan.at source) later stop → Cut [] (utf8_valid_len source) source (items ++ later) stop
   pub ends : total items ≡ scan.at
   pub inside : scan.at ≤ length source
-  pub front : IsFront source scan.at scan.bad
-  pub stop : (later : List Begin) → stop_at scan.at scan.outer.at scan.opens later ≡ stop_at 0 0 [] (items ++ later)
-  pub large : (later : List Begin) → or_later scan.large (large_at scan.at (drop scan.at source) later) ≡ large_at 0 source (items ++ later)
-  pub told : (end : Span) (later : List Begin) → scan.told.tokens ++ told end scan.told.here (drop scan.at source) later ≡ told end start source (items ++ later)
+  pub prefix : IsFirstBad source scan.at scan.bad
+  pub stop : (later : List Lexeme) → stop_at scan.at scan.outer.at scan.opens later ≡ stop_at 0 0 [] (items ++ later)
+  pub large : (later : List Lexeme) → or_later scan.large (large_at scan.at (drop scan.at source) later) ≡ large_at 0 source (items ++ later)
+  pub emitted : (end : Span) (later : List Lexeme) → scan.emitted.tokens ++ emitted end scan.emitted.here (drop scan.at source) later ≡ emitted end start source (items ++ later)
   pub places : ArePlaces source scan
 
 -- The source is cut into these gaps and tokens, and this is what is kept of all of them.
-pub record Read (source : Text) (scan : Scan) (stop : Begin) : Type 0 where
-  pub items : List Begin
+pub record Scanned (source : Text) (scan : Scan) (stop : Lexeme) : Type 0 where
+  pub items : List Lexeme
   pub cut : Cut [] (utf8_valid_len source) source items stop
   pub stopped : IsStop stop
   pub ends : total items ≡ scan.at
   pub inside : scan.at ≤ length source
-  pub front : IsFront source scan.at scan.bad
+  pub prefix : IsFirstBad source scan.at scan.bad
   pub stop_place : stop_of scan ≡ stop_at 0 0 [] items
   pub large : or_later scan.large None ≡ large_at 0 source items
-  pub told : (end : Span) → scan.told.tokens ++ token_at end scan.told.here k.End [] ∷ [] ≡ told end start source items
+  pub emitted : (end : Span) → scan.emitted.tokens ++ token_at end scan.emitted.here k.End [] ∷ [] ≡ emitted end start source items
   pub places : ArePlaces source scan

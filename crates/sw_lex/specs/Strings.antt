@@ -7,11 +7,11 @@ use Rattle.sw_lex.specs.Bytes.{Text, is_in, tab, line_feed, carriage_return, quo
 
 -- ---- one piece
 
--- a byte of a character other than `"`, `\`, CR and LF, where the first `good` bytes from it on are characters
+-- a byte of a character other than `"`, `\`, CR and LF, where the first `valid` bytes from it on are characters
 abbrev pub is_plain : ℕ → ℕ → Bool
-is_plain good byte =
+is_plain valid byte =
     not (byte == quote) && not (byte == backslash) && not (byte == carriage_return) && not (byte == line_feed)
-    && (nat_lt byte 128 || nat_lt 0 good)
+    && (nat_lt byte 128 || nat_lt 0 valid)
 
 -- the letters of the escapes `\n`, `\r`, `\t`, `\0`, `\"`, `\'` and `\\`
 abbrev pub is_escape : ℕ → Bool
@@ -41,7 +41,7 @@ is_scalar number = nat_lt number 55296 || (nat_le 57344 number && nat_lt number 
 
 -- a byte of a character stands for itself
 abbrev pub IsCharacter : ℕ → Text → Text → Type 0
-IsCharacter good bytes text = (byte : ℕ) × (bytes ≡ byte ∷ []) × (text ≡ byte ∷ []) × (is_plain good byte ≡ true)
+IsCharacter valid bytes text = (byte : ℕ) × (bytes ≡ byte ∷ []) × (text ≡ byte ∷ []) × (is_plain valid byte ≡ true)
 
 -- `\` and a letter
 abbrev pub IsEscape : Text → Text → Type 0
@@ -60,7 +60,7 @@ IsScalar bytes text =
 
 -- these bytes are one piece, which stands for the text
 abbrev pub IsPiece : ℕ → Text → Text → Type 0
-IsPiece good bytes text = IsCharacter good bytes text ⊎ IsEscape bytes text ⊎ IsScalar bytes text
+IsPiece valid bytes text = IsCharacter valid bytes text ⊎ IsEscape bytes text ⊎ IsScalar bytes text
 
 -- ---- several pieces
 
@@ -71,8 +71,8 @@ pub record Part : Type 0 where
 
 -- each is a piece
 abbrev pub ArePieces : ℕ → List Part → Type 0
-ArePieces good [] = Unit {0}
-ArePieces good (part ∷ parts) = IsPiece good part.bytes part.text × ArePieces (good - length part.bytes) parts
+ArePieces valid [] = Unit {0}
+ArePieces valid (part ∷ parts) = IsPiece valid part.bytes part.text × ArePieces (valid - length part.bytes) parts
 
 -- all their bytes
 abbrev pub bytes_of : List Part → Text

@@ -3,7 +3,7 @@
 ghost use Rattle.std.specs.Prelude.{◌≡◌, OnOk};
 ghost use Rattle.sw_lex.specs.Cut as spec;
 
-use crate::forms::Begin;
+use crate::lexemes::Lexeme;
 use crate::token::TokenKind;
 use sw_base::{NoMemory, Stack};
 
@@ -25,23 +25,23 @@ pub fn closes(opens: &Stack<bool>) -> bool
 }
 
 /// Keeps the brackets that are open within the outermost string, where `\(` is true.
-pub fn go_behind(opens: &mut Stack<bool>, item: Begin) -> Result<(), NoMemory>
+pub fn track(opens: &mut Stack<bool>, item: Lexeme) -> Result<(), NoMemory>
     ensures { OnOk result (opens.new ≡ spec.after opens.old item) }
 {
     match item {
-        Begin::Token(TokenKind::StringStart, _) => opens.push(true),
-        Begin::Token(TokenKind::LeftParen, _) => {
+        Lexeme::Token(TokenKind::StringStart, _) => opens.push(true),
+        Lexeme::Token(TokenKind::LeftParen, _) => {
             if is_inside(opens) {
                 opens.push(false)
             } else {
                 Ok(())
             }
         }
-        Begin::Token(TokenKind::StringLast, _) => {
+        Lexeme::Token(TokenKind::StringLast, _) => {
             opens.discard(1);
             Ok(())
         }
-        Begin::Token(TokenKind::RightParen, _) => {
+        Lexeme::Token(TokenKind::RightParen, _) => {
             opens.discard(1);
             Ok(())
         }

@@ -2,15 +2,16 @@
 
 ghost use Rattle.std.specs.Prelude.{◌≡◌, ◌≤◌, ◌⊎◌, ℕ, List, Some, None, IfSome, false, length, true};
 ghost use Rattle.std.specs.Str.Lossy.{utf8_valid_len};
-ghost use Rattle.sw_lex.specs.Characters.{IsFront};
+ghost use Rattle.sw_base.specs.Limits.{longest_source};
+ghost use Rattle.sw_lex.specs.Characters.{IsFirstBad};
 ghost use Rattle.sw_lex.specs.Tokens.{place_at};
-ghost use Rattle.sw_lex.specs.Scanning.{ArePlaces, IsSpot, Read, by_offset};
+ghost use Rattle.sw_lex.specs.Scanning.{ArePlaces, IsSpot, Scanned, by_offset};
 ghost use Rattle.sw_lex.specs.Scanning as scanning;
 ghost use Rattle.sw_lex.specs.Rules as spec;
-ghost use Rattle.sw_lex.specs.Finding as finding;
+ghost use Rattle.sw_lex.specs.FirstBroken as broken;
 
 use crate::brackets::is_inside;
-use crate::forms::Begin;
+use crate::lexemes::Lexeme;
 use crate::places::Spot;
 use crate::scan::{Scan, first_bad};
 use sw_rules::Rule;
@@ -19,8 +20,8 @@ use sw_rules::Rule;
 pub type Found = Option<(Rule, Spot)>;
 
 fn is_before(a: (Rule, Spot), b: (Rule, Spot)) -> bool
-    ensures first { result ≡ true → finding.IsBefore a.0 a.1.at b.0 b.1.at }
-    ensures second { result ≡ false → finding.IsBefore b.0 b.1.at a.0 a.1.at }
+    ensures first { result ≡ true → broken.IsBefore a.0 a.1.at b.0 b.1.at }
+    ensures second { result ≡ false → broken.IsBefore b.0 b.1.at a.0 a.1.at }
 {
     if a.1.at < b.1.at {
         return true;
@@ -32,7 +33,7 @@ fn is_before(a: (Rule, Spot), b: (Rule, Spot)) -> bool
 }
 
 fn earlier(a: Found, b: Found) -> Found
-    ensures first { finding.IsFirst (λ rule at. (by_offset a ≡ Some (rule, at))
+    ensures first { broken.IsFirst (λ rule at. (by_offset a ≡ Some (rule, at))
         ⊎ (by_offset b ≡ Some (rule, at))) (by_offset result) }
     ensures placed { (source : List ℕ) → IfSome a (λ x. IsSpot source x.1)
         → IfSome b (λ x. IsSpot source x.1) → IfSome result (λ x. IsSpot source x.1) }
@@ -46,14 +47,14 @@ fn earlier(a: Found, b: Found) -> Found
     }
 }
 
-/// The first byte that is no part of a character. Where none is found yet, the bytes are looked at behind
-/// which nothing could be cut.
+/// The first byte that is no part of a character. Where none is found so far, it is looked for from where the
+/// cut stopped on.
 fn bad_found(scan: &Scan, source: &[u8]) -> Found
-    requires short { length source.now ≤ 1048576 }
+    requires short { length source.now ≤ longest_source }
     requires known { ArePlaces source.now scan.now }
-    requires front { IsFront source.now scan.now.at scan.now.bad }
+    requires prefix { IsFirstBad source.now scan.now.at scan.now.bad }
     requires inside { scan.now.at ≤ length source.now }
-    ensures value { by_offset result ≡ finding.bad_found source.now (utf8_valid_len source.now) }
+    ensures value { by_offset result ≡ broken.bad_found source.now (utf8_valid_len source.now) }
     ensures placed { IfSome result (λ x. IsSpot source.now x.1) }
 {
     match first_bad(scan.bad, source, scan.here(), source.len() - scan.at) {
@@ -74,20 +75,20 @@ fn stop_spot(scan: &Scan) -> Spot
     }
 }
 
-fn stop_found(scan: &Scan, stop: Begin) -> Found
-    ensures value { by_offset result ≡ finding.fault_found stop (scanning.stop_of scan.now) }
+fn stop_found(scan: &Scan, stop: Lexeme) -> Found
+    ensures value { by_offset result ≡ broken.fault_found stop (scanning.stop_of scan.now) }
     ensures placed { (source : List ℕ) → ArePlaces source scan.now
         → IfSome result (λ x. IsSpot source x.1) }
 {
     match stop {
-        Begin::Formless => Some((Rule::L2, stop_spot(scan))),
-        Begin::Unclosed => Some((Rule::L3, stop_spot(scan))),
+        Lexeme::Malformed => Some((Rule::L2, stop_spot(scan))),
+        Lexeme::Unterminated => Some((Rule::L3, stop_spot(scan))),
         _ => None,
     }
 }
 
 fn large_found(scan: &Scan) -> Found
-    ensures value { by_offset result ≡ finding.large_found (scanning.or_later scan.now.large None) }
+    ensures value { by_offset result ≡ broken.large_found (scanning.or_later scan.now.large None) }
     ensures placed { (source : List ℕ) → ArePlaces source scan.now
         → IfSome result (λ x. IsSpot source x.1) }
 {
@@ -98,10 +99,10 @@ fn large_found(scan: &Scan) -> Found
 }
 
 /// The first rule that a source breaks which is not too long, if any, by what was read of it.
-pub fn first_broken(scan: &Scan, source: &[u8], stop: Begin) -> Found
-    requires short { length source.now ≤ 1048576 }
-    requires read { Read source.now scan.now stop }
-    ensures first { finding.IsFirst (spec.Breaks source.now) (by_offset result) }
+pub fn first_broken(scan: &Scan, source: &[u8], stop: Lexeme) -> Found
+    requires short { length source.now ≤ longest_source }
+    requires read { Scanned source.now scan.now stop }
+    ensures first { broken.IsFirst (spec.Breaks source.now) (by_offset result) }
     ensures place { IfSome result (λ x. x.1.place ≡ place_at source.now x.1.at) }
 {
     let bad = bad_found(scan, source);

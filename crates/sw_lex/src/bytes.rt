@@ -3,7 +3,7 @@
 ghost use Rattle.std.specs.Prelude.{◌≡◌, ◌≢◌, ◌<◌, ◌≤◌, length, slice_index, true};
 ghost use Rattle.std.specs.List.{prefix_len};
 ghost use Rattle.sw_lex.specs.Bytes.{has_line_end, is_in};
-ghost use Rattle.sw_lex.specs.Cut.{IsGood};
+ghost use Rattle.sw_lex.specs.Cut.{IsValidPrefix};
 
 /// A class of bytes that tokens are made of.
 #[derive(Clone, Copy, Debug, PartialEq, Eq)]
@@ -67,9 +67,9 @@ pub fn has_line_end(bytes: &[u8]) -> bool
     bytes.contains(&b'\n')
 }
 
-/// How many bytes are the longest front that is UTF-8.
-pub fn good_front(source: &[u8]) -> usize
-    ensures { IsGood source.now result }
+/// The length of the longest prefix that is UTF-8.
+pub fn valid_len(source: &[u8]) -> usize
+    ensures { IsValidPrefix source.now result }
 {
     match str::from_utf8(source) {
         Ok(_) => source.len(),

@@ -7,12 +7,12 @@ ghost use Rattle.sw_lex.specs.Rules.{Refuses};
 ghost use Rattle.sw_rules.specs.Pass.{IsCause, RefusesNone};
 
 use crate::broken::first_broken;
-use crate::limits::MOST_BYTES;
 use crate::long::first_of_long;
 use crate::places::ORIGIN;
 use crate::scan::Scan;
 use crate::tokens::Tokens;
 use std::alloc::Global;
+use sw_base::LONGEST_SOURCE;
 use sw_rules::{FrontError, Refusal};
 
 /// The tokens of a source, ended by one for the end of the source.
@@ -27,15 +27,15 @@ pub fn lex(alloc: Global, source: &[u8]) -> Result<Tokens, FrontError>
     ensures unbroken { IfOk result (λ tokens. RefusesNone (Refuses source.now)) }
     ensures refused { IfErr result (λ error. IsCause (Refuses source.now) error) }
 {
-    if MOST_BYTES < source.len() {
+    if LONGEST_SOURCE < source.len() {
         let rule = first_of_long(alloc, source)?;
         return Err(FrontError::Refused(Refusal { rule, span: ORIGIN }));
     }
     let (scan, stop) = Scan::read(alloc, source)?;
     match first_broken(&scan, source, stop) {
         None => {
-            let told = scan.told.ended(alloc, source.len())?;
-            Ok(Tokens::new(told))
+            let emitted = scan.emitted.ended(alloc, source.len())?;
+            Ok(Tokens::new(emitted))
         }
         Some((rule, spot)) => Err(FrontError::Refused(Refusal {
             rule,

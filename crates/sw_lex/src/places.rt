@@ -16,11 +16,11 @@ pub struct Spot {
     pub place: Span,
 }
 
-/// The place behind one byte.
-pub fn behind(place: Span, byte: u8) -> Span
+/// The place after one byte.
+pub fn after_byte(place: Span, byte: u8) -> Span
     requires line { place.line + 1 < 2 ^ 32 }
     requires column { place.column + 1 < 2 ^ 32 }
-    ensures { result ≡ spec.behind place byte }
+    ensures { result ≡ spec.after_byte place byte }
 {
     if byte == b'\n' {
         Span {
@@ -35,7 +35,7 @@ pub fn behind(place: Span, byte: u8) -> Span
     }
 }
 
-/// The place behind some bytes.
+/// The place after some bytes.
 pub fn moved(mut place: Span, bytes: &[u8]) -> Span
     requires lines { place.line + length bytes.now < 2 ^ 32 }
     requires columns { place.column + length bytes.now < 2 ^ 32 }
@@ -44,7 +44,7 @@ pub fn moved(mut place: Span, bytes: &[u8]) -> Span
     ensures column { result.column ≤ place.column + length bytes.now }
 {
     for byte in bytes {
-        place = behind(place, *byte);
+        place = after_byte(place, *byte);
     }
     place
 }

@@ -2,21 +2,22 @@
 
 ghost use Rattle.std.specs.Prelude.{◌≡◌, ◌<◌, ◌≤◌, ◌+◌, ◌-◌, ◌^◌, IfOk, IfSome, OnOk, drop, length, take};
 ghost use Rattle.std.specs.Str.{IsUtf8};
-ghost use Rattle.sw_lex.specs.Forms.{size_of};
-ghost use Rattle.sw_lex.specs.Characters.{IsFront, IsSeam};
-ghost use Rattle.sw_lex.specs.Reading.{IsWithin};
+ghost use Rattle.sw_base.specs.Limits.{longest_source};
+ghost use Rattle.sw_lex.specs.Lexemes.{size_of};
+ghost use Rattle.sw_lex.specs.Characters.{IsFirstBad, IsBoundary};
+ghost use Rattle.sw_lex.specs.Matching.{IsWithin};
 ghost use Rattle.sw_lex.specs.Scanning as spec;
 
-use crate::brackets::{closes, go_behind, is_inside};
-use crate::bytes::good_front;
-use crate::forms::{Begin, begins, size_of};
+use crate::brackets::{closes, is_inside, track};
+use crate::bytes::valid_len;
+use crate::emit::TokenWriter;
+use crate::lexemes::{Lexeme, first_lexeme, size_of};
 use crate::limits::is_too_large;
 use crate::places::{ORIGIN, Spot, moved};
-use crate::telling::Told;
 use std::alloc::Global;
 use sw_base::{NoMemory, Stack};
 
-/// What is known of a source behind the gaps and tokens that it is cut into so far.
+/// What is known of a source after the gaps and tokens that it is cut into so far.
 #[derive(Debug, Drop)]
 pub struct Scan {
     /// How many bytes they have.
@@ -30,10 +31,10 @@ pub struct Scan {
     /// The first integer that is too large.
     pub large: Option<Spot>,
     /// Their tokens.
-    pub told: Told,
+    pub emitted: TokenWriter,
 }
 
-/// Where the outermost string begins behind what begins here.
+/// Where the outermost string begins after what begins here.
 fn outermost(opens: &Stack<bool>, outer: Spot, here: Spot) -> Spot
     ensures { result ≡ spec.outermost opens.now outer here }
 {
@@ -42,34 +43,34 @@ fn outermost(opens: &Stack<bool>, outer: Spot, here: Spot) -> Spot
 
 /// The first byte that is no part of a character, if it is one of so many from here on.
 fn bad_within(source: &[u8], here: Spot, size: usize) -> Option<Spot>
-    requires short { length source.now ≤ 1048576 }
+    requires short { length source.now ≤ longest_source }
     requires within { here.at + size ≤ length source.now }
-    requires seam { IsSeam (drop here.at source.now) size }
-    requires fine { IsUtf8 (take here.at source.now) }
+    requires boundary { IsBoundary (drop here.at source.now) size }
+    requires valid_so_far { IsUtf8 (take here.at source.now) }
     requires place { spec.IsSpot source.now here }
-    ensures front { IsFront source.now (here.at + size) result }
+    ensures prefix { IsFirstBad source.now (here.at + size) result }
     ensures placed { IfSome result (spec.IsSpot source.now) }
 {
     let bytes = &source[here.at..];
-    let good = good_front(&bytes[..size]);
-    if good == size {
+    let valid = valid_len(&bytes[..size]);
+    if valid == size {
         return None;
     }
     Some(Spot {
-        at: here.at + good,
-        place: moved(here.place, &bytes[..good]),
+        at: here.at + valid,
+        place: moved(here.place, &bytes[..valid]),
     })
 }
 
 /// The first byte that is no part of a character, if it is one of those before or of so many from here on.
 pub fn first_bad(bad: Option<Spot>, source: &[u8], here: Spot, size: usize) -> Option<Spot>
-    requires short { length source.now ≤ 1048576 }
+    requires short { length source.now ≤ longest_source }
     requires within { here.at + size ≤ length source.now }
-    requires seam { IsSeam (drop here.at source.now) size }
-    requires front { IsFront source.now here.at bad }
+    requires boundary { IsBoundary (drop here.at source.now) size }
+    requires prefix { IsFirstBad source.now here.at bad }
     requires place { spec.IsSpot source.now here }
     requires placed { IfSome bad (spec.IsSpot source.now) }
-    ensures front { IsFront source.now (here.at + size) result }
+    ensures prefix { IsFirstBad source.now (here.at + size) result }
     ensures placed { IfSome result (spec.IsSpot source.now) }
 {
     match bad {
@@ -79,7 +80,7 @@ pub fn first_bad(bad: Option<Spot>, source: &[u8], here: Spot, size: usize) -> O
 }
 
 /// The first integer that is too large.
-fn first_large(large: Option<Spot>, bytes: &[u8], item: Begin, here: Spot) -> Option<Spot>
+fn first_large(large: Option<Spot>, bytes: &[u8], item: Lexeme, here: Spot) -> Option<Spot>
     requires { size_of item ≤ length bytes.now }
     ensures { result ≡ spec.first_large large bytes.now item here }
 {
@@ -110,7 +111,7 @@ impl Scan {
             outer: origin,
             bad: None,
             large: None,
-            told: Told::new(alloc),
+            emitted: TokenWriter::new(alloc),
         }
     }
 
@@ -120,17 +121,17 @@ impl Scan {
     {
         Spot {
             at: self.at,
-            place: self.told.here.place,
+            place: self.emitted.here.place,
         }
     }
 
-    /// What begins behind what is cut so far.
-    fn next(&self, source: &[u8]) -> Begin
+    /// What begins after what is cut so far.
+    fn next(&self, source: &[u8]) -> Lexeme
         requires { spec.Known source.now self.now }
         ensures value { result ≡ spec.next self.now source.now }
         ensures within { IsWithin result (length source.now - self.now.at) }
     {
-        begins(
+        first_lexeme(
             &source[self.at..],
             is_inside(&self.opens),
             closes(&self.opens),
@@ -138,9 +139,9 @@ impl Scan {
         )
     }
 
-    /// Goes on behind the gap or token that begins here.
-    fn go_on(&mut self, alloc: Global, source: &[u8], item: Begin) -> Result<(), NoMemory>
-        requires short { length source.now ≤ 1048576 }
+    /// Goes on to the end of the gap or token that begins here.
+    fn advance(&mut self, alloc: Global, source: &[u8], item: Lexeme) -> Result<(), NoMemory>
+        requires short { length source.now ≤ longest_source }
         requires known { spec.Known source.now self.old }
         requires next { item ≡ spec.next self.old source.now }
         requires some { 1 ≤ size_of item }
@@ -153,24 +154,25 @@ impl Scan {
         self.outer = outermost(&self.opens, self.outer, here);
         self.bad = first_bad(self.bad, source, here, size);
         self.large = first_large(self.large, &source[self.at..], item, here);
-        self.told.go_behind(alloc, &source[self.at..], item)?;
-        go_behind(&mut self.opens, item)?;
+        self.emitted.write(alloc, &source[self.at..], item)?;
+        track(&mut self.opens, item)?;
         self.at += size;
         Ok(())
     }
 
-    /// All of a source's gaps and tokens, and what stands behind them.
-    pub fn read(alloc: Global, source: &[u8]) -> Result<(Scan, Begin), NoMemory>
-        requires { length source.now ≤ 1048576 }
-        ensures { IfOk result (λ r. spec.Read source.now r.0 r.1) }
+    /// All of a source's gaps and tokens, and what follows them.
+    pub fn read(alloc: Global, source: &[u8]) -> Result<(Scan, Lexeme), NoMemory>
+        requires { length source.now ≤ longest_source }
+        ensures { IfOk result (λ r. spec.Scanned source.now r.0 r.1) }
     {
         let mut scan = Scan::new(alloc);
+        // the proof gives the loop's invariant by this label
         'read: loop {
             let item = scan.next(source);
             if size_of(item) == 0 {
                 return Ok((scan, item));
             }
-            scan.go_on(alloc, source, item)?;
+            scan.advance(alloc, source, item)?;
         }
     }
 }

@@ -2,10 +2,10 @@
 
 ghost use Rattle.std.specs.Prelude.{◌≡◌, ◌≤◌, ◌<◌, ◌+◌, ◌-◌, ◌^◌, ◌++◌, IfOk, OnOk, drop, length, min, slice_index, true};
 ghost use Rattle.sw_lex.specs.Strings as spec;
-ghost use Rattle.sw_lex.specs.Characters.{good_ahead};
-ghost use Rattle.sw_lex.specs.Reading as reading;
+ghost use Rattle.sw_lex.specs.Characters.{valid_ahead};
+ghost use Rattle.sw_lex.specs.Matching as matching;
 
-use crate::bytes::{Class, byte_at, good_front, run_len};
+use crate::bytes::{Class, byte_at, run_len, valid_len};
 use std::alloc::Global;
 use sw_base::{NoMemory, Text};
 
@@ -19,22 +19,22 @@ pub enum Piece {
     /// `\(`
     Open,
     /// Nothing that a string may have.
-    NoForm,
+    Invalid,
     /// The end of the line or of the source.
     LineEnd,
 }
 
 /// The pieces of a string, up to where they end.
 #[derive(Clone, Copy, Debug, PartialEq, Eq)]
-pub enum Strand {
+pub enum StringSegment {
     /// So many bytes, with the closing quote.
     Closed(usize),
-    /// So many bytes, with the `\(` behind them.
+    /// So many bytes, with the `\(` after them.
     Opened(usize),
-    /// A piece of no form comes next.
-    Formless,
+    /// A malformed piece comes next.
+    Malformed,
     /// The line or the source ends before the closing quote.
-    Unclosed,
+    Unterminated,
 }
 
 fn hex_digit(byte: u8) -> u8
@@ -66,45 +66,45 @@ fn is_scalar(number: u32) -> bool
     number < 55296 || (57344 <= number && number < 1114112)
 }
 
-/// The piece whose first three bytes are `\u{`, by the bytes behind them.
+/// The piece whose first three bytes are `\u{`, by the bytes after them.
 #[tactic(auto, using(crate::proofs::HexLemmas::scalar_least))]
 fn unicode(bytes: &[u8]) -> Piece
-    ensures value { result ≡ reading.unicode bytes.now }
-    ensures within { reading.IsPieceWithin result (3 + length bytes.now) }
+    ensures value { result ≡ matching.unicode bytes.now }
+    ensures within { matching.IsPieceWithin result (3 + length bytes.now) }
 {
     let digits = run_len(Class::Hex, bytes);
     if digits < 1 {
-        return Piece::NoForm;
+        return Piece::Invalid;
     }
     if 8 < digits {
-        return Piece::NoForm;
+        return Piece::Invalid;
     }
     if byte_at(bytes, digits) != b'}' {
-        return Piece::NoForm;
+        return Piece::Invalid;
     }
     if is_scalar(hex_number(&bytes[..digits])) {
         Piece::Plain(digits + 4)
     } else {
-        Piece::NoForm
+        Piece::Invalid
     }
 }
 
-/// The piece whose first byte is `\`, by the bytes behind it.
+/// The piece whose first byte is `\`, by the bytes after it.
 fn escape(bytes: &[u8]) -> Piece
-    ensures value { result ≡ reading.escape bytes.now }
-    ensures within { reading.IsPieceWithin result (1 + length bytes.now) }
+    ensures value { result ≡ matching.escape bytes.now }
+    ensures within { matching.IsPieceWithin result (1 + length bytes.now) }
 {
     match byte_at(bytes, 0) {
         b'(' => Piece::Open,
         b'n' | b'r' | b't' | b'0' | b'"' | b'\'' | b'\\' => Piece::Plain(2),
         b'u' if byte_at(bytes, 1) == b'{' => unicode(&bytes[2..]),
-        _ => Piece::NoForm,
+        _ => Piece::Invalid,
     }
 }
 
 /// How many bytes a text begins with that are not of ASCII.
 fn high_len(bytes: &[u8]) -> usize
-    ensures value { result ≡ reading.high_len bytes.now }
+    ensures value { result ≡ matching.high_len bytes.now }
     ensures within { result ≤ length bytes.now }
 {
     let mut end = 0;
@@ -116,59 +116,60 @@ fn high_len(bytes: &[u8]) -> usize
 
 /// The characters that begin a text, up to the next byte of ASCII, where all bytes before are characters
 /// or not.
-fn characters(bytes: &[u8], fine: bool) -> Piece
+fn characters(bytes: &[u8], valid_so_far: bool) -> Piece
     requires some { 0 < length bytes.now }
     requires high { 128 ≤ slice_index bytes.now 0 }
-    ensures value { reading.GoesOn (good_ahead fine bytes.now) bytes.now result }
-    ensures within { reading.IsPieceWithin result (length bytes.now) }
-    ensures good { fine ≡ true → reading.IsGoodPiece bytes.now result }
+    ensures value { matching.GoesOn (valid_ahead valid_so_far bytes.now) bytes.now result }
+    ensures within { matching.IsPieceWithin result (length bytes.now) }
+    ensures valid { valid_so_far ≡ true → matching.IsValidPiece bytes.now result }
 {
-    if !fine {
-        return Piece::NoForm;
+    if !valid_so_far {
+        return Piece::Invalid;
     }
-    let good = good_front(&bytes[..high_len(bytes)]);
-    if good == 0 {
-        Piece::NoForm
+    let valid = valid_len(&bytes[..high_len(bytes)]);
+    if valid == 0 {
+        Piece::Invalid
     } else {
-        Piece::Plain(good)
+        Piece::Plain(valid)
     }
 }
 
 /// The piece that begins a text, where all bytes before are characters or not. Characters beyond ASCII
 /// that follow each other are taken as one.
-fn piece_at(bytes: &[u8], fine: bool) -> Piece
-    ensures value { reading.GoesOn (good_ahead fine bytes.now) bytes.now result }
-    ensures within { reading.IsPieceWithin result (length bytes.now) }
-    ensures good { fine ≡ true → reading.IsGoodPiece bytes.now result }
+fn piece_at(bytes: &[u8], valid_so_far: bool) -> Piece
+    ensures value { matching.GoesOn (valid_ahead valid_so_far bytes.now) bytes.now result }
+    ensures within { matching.IsPieceWithin result (length bytes.now) }
+    ensures valid { valid_so_far ≡ true → matching.IsValidPiece bytes.now result }
 {
     match bytes {
         [] => Piece::LineEnd,
         [byte, rest @ ..] => match *byte {
             b'"' => Piece::Quote,
             b'\n' => Piece::LineEnd,
-            b'\r' => Piece::NoForm,
+            b'\r' => Piece::Invalid,
             b'\\' => escape(rest),
-            byte if 128 <= byte => characters(bytes, fine),
+            byte if 128 <= byte => characters(bytes, valid_so_far),
             _ => Piece::Plain(1),
         },
     }
 }
 
-/// The pieces behind the first byte, which is of ASCII, where all bytes before are characters or not.
-pub fn pieces(bytes: &[u8], fine: bool) -> Strand
+/// The pieces after the first byte, which is of ASCII, where all bytes before are characters or not.
+pub fn pieces(bytes: &[u8], valid_so_far: bool) -> StringSegment
     requires some { 1 ≤ length bytes.now }
     requires ascii { slice_index bytes.now 0 < 128 }
-    ensures value { result ≡ reading.pieces 0 1 (good_ahead fine bytes.now - 1) (drop 1 bytes.now) }
-    ensures within { reading.IsStrandWithin result (length bytes.now) }
+    ensures value { result ≡ matching.pieces 0 1 (valid_ahead valid_so_far bytes.now - 1) (drop 1 bytes.now) }
+    ensures within { matching.IsSegmentWithin result (length bytes.now) }
 {
     let mut at = 1;
+    // the proof gives the loop's invariant by this label
     'pieces: loop {
-        match piece_at(&bytes[at..], fine) {
+        match piece_at(&bytes[at..], valid_so_far) {
             Piece::Plain(size) => at += size,
-            Piece::Quote => return Strand::Closed(at + 1),
-            Piece::Open => return Strand::Opened(at + 2),
-            Piece::NoForm => return Strand::Formless,
-            Piece::LineEnd => return Strand::Unclosed,
+            Piece::Quote => return StringSegment::Closed(at + 1),
+            Piece::Open => return StringSegment::Opened(at + 2),
+            Piece::Invalid => return StringSegment::Malformed,
+            Piece::LineEnd => return StringSegment::Unterminated,
         }
     }
 }
@@ -186,7 +187,7 @@ fn escaped(letter: u8) -> u8
 }
 
 fn push_scalar(out: &mut Vec<u8>, number: u32) -> Result<(), NoMemory>
-    ensures { OnOk result (out.new.items ≡ out.old.items ++ reading.scalar_text number) }
+    ensures { OnOk result (out.new.items ≡ out.old.items ++ matching.scalar_text number) }
 {
     if !is_scalar(number) {
         return Ok(());
@@ -210,8 +211,8 @@ fn from_third(bytes: &[u8]) -> &[u8]
 
 /// Adds what the plain piece stands for that begins a text.
 #[tactic(auto, using(crate::proofs::HexLemmas::scalar_text_least))]
-fn push_spoken(out: &mut Vec<u8>, bytes: &[u8]) -> Result<(), NoMemory>
-    ensures { OnOk result (out.new.items ≡ out.old.items ++ reading.spoken bytes.now) }
+fn push_piece_text(out: &mut Vec<u8>, bytes: &[u8]) -> Result<(), NoMemory>
+    ensures { OnOk result (out.new.items ≡ out.old.items ++ matching.piece_text bytes.now) }
 {
     if byte_at(bytes, 0) == b'\\' {
         if byte_at(bytes, 1) == b'u' {
@@ -226,8 +227,8 @@ fn push_spoken(out: &mut Vec<u8>, bytes: &[u8]) -> Result<(), NoMemory>
 }
 
 /// How many bytes that piece has.
-fn spoken_len(bytes: &[u8]) -> usize
-    ensures value { result ≡ reading.spoken_len bytes.now }
+fn piece_len(bytes: &[u8]) -> usize
+    ensures value { result ≡ matching.piece_len bytes.now }
     ensures some { 1 ≤ result }
     ensures near { result ≤ length bytes.now + 4 }
 {
@@ -243,13 +244,13 @@ fn spoken_len(bytes: &[u8]) -> usize
 /// The text that plain pieces stand for.
 pub fn decoded(alloc: Global, bytes: &[u8]) -> Result<Text, NoMemory>
     requires { length bytes.now < 2 ^ 62 }
-    ensures { IfOk result (λ text. text ≡ reading.decoded 0 bytes.now) }
+    ensures { IfOk result (λ text. text ≡ matching.decoded 0 bytes.now) }
 {
     let mut out = Vec::new(alloc);
     let mut at = 0;
     while at < bytes.len() {
-        push_spoken(&mut out, &bytes[at..])?;
-        at += spoken_len(&bytes[at..]);
+        push_piece_text(&mut out, &bytes[at..])?;
+        at += piece_len(&bytes[at..]);
     }
     Text::from_vec(alloc, out)
 }

@@ -1,11 +1,11 @@
-//! The reserved words and the marks.
+//! The reserved words and the marks: the one table of their spellings.
 
-ghost use Rattle.std.specs.Prelude.{◌≡◌, ◌≤◌, length, map, true};
-ghost use Rattle.sw_lex.specs.Tables.{begins_with, is_same_text, kind_in, kind_of_word};
-ghost use Rattle.sw_lex.specs.Reading.{IsTable, IsWithin, first_mark, mark};
+ghost use Rattle.std.specs.Prelude.{◌≡◌, ◌≤◌, length, map, option_copied, true};
+ghost use Rattle.sw_lex.specs.Tables.{is_prefix_of, fixed, is_reserved_kind, is_same_text, kind_in, kind_of_word};
+ghost use Rattle.sw_lex.specs.Matching.{IsTable, IsWithin, first_mark, mark, text_in};
 
-use crate::forms::Begin;
-use crate::token::TokenKind;
+use crate::lexemes::Lexeme;
+use crate::token::{TokenKind, same_kind};
 
 const WORDS: [(&[u8], TokenKind); 47] = [
     (b"_", TokenKind::Underscore),
@@ -121,31 +121,73 @@ pub fn kind_of_word(text: &[u8]) -> TokenKind
     kind_in(&WORDS, text)
 }
 
-fn begins_with(mark: &[u8], bytes: &[u8]) -> bool
-    ensures value { result ≡ begins_with mark.now bytes.now }
+fn is_prefix_of(mark: &[u8], bytes: &[u8]) -> bool
+    ensures value { result ≡ is_prefix_of mark.now bytes.now }
     ensures within { result ≡ true → length mark.now ≤ length bytes.now }
 {
     mark.len() <= bytes.len() && is_same_text(&bytes[..mark.len()], mark)
 }
 
-fn first_mark(mut table: &[(&[u8], TokenKind)], bytes: &[u8]) -> Begin
+fn first_mark(mut table: &[(&[u8], TokenKind)], bytes: &[u8]) -> Lexeme
     requires { IsTable (map (λ x. (x.0.now, x.1)) table.now) }
     ensures value { result ≡ first_mark (map (λ x. (x.0.now, x.1)) table.entry.now) bytes.now }
     ensures within { IsWithin result (length bytes.now) }
 {
     while let [entry, rest @ ..] = table {
-        if begins_with(entry.0, bytes) {
-            return Begin::Token(entry.1, entry.0.len());
+        if is_prefix_of(entry.0, bytes) {
+            return Lexeme::Token(entry.1, entry.0.len());
         }
         table = rest;
     }
-    Begin::Formless
+    Lexeme::Malformed
 }
 
 /// The longest mark that begins a text, if one does.
-pub fn mark(bytes: &[u8]) -> Begin
+pub fn mark(bytes: &[u8]) -> Lexeme
     ensures value { result ≡ mark bytes.now }
     ensures within { IsWithin result (length bytes.now) }
 {
     first_mark(&MARKS, bytes)
+}
+
+/// The text of a kind in a table, if it stands there.
+fn text_in(
+    mut table: &'static [(&'static [u8], TokenKind)],
+    kind: TokenKind,
+) -> Option<&'static [u8]>
+    ensures { option_copied result ≡ text_in (map (λ x. (x.0.now, x.1)) table.entry.now) kind }
+{
+    while let [entry, rest @ ..] = table {
+        if same_kind(entry.1, kind) {
+            return Some(entry.0);
+        }
+        table = rest;
+    }
+    None
+}
+
+impl TokenKind {
+    /// How a reserved word, a lone `_` or a mark is spelt. Other kinds have no spelling of their own, and
+    /// give no bytes.
+    pub fn spelling(self) -> &'static [u8]
+        ensures { result.now ≡ fixed self }
+    {
+        match text_in(&WORDS, self) {
+            Some(word) => word,
+            None => match text_in(&MARKS, self) {
+                Some(mark) => mark,
+                None => b"",
+            },
+        }
+    }
+
+    /// Tells whether it is the kind of a reserved word.
+    pub fn is_reserved(self) -> bool
+        ensures { result ≡ is_reserved_kind self }
+    {
+        match text_in(&WORDS, self) {
+            Some(_) => !same_kind(self, TokenKind::Underscore),
+            None => false,
+        }
+    }
 }

@@ -1,5 +1,8 @@
 //! Tokens and their kinds.
 
+ghost use Rattle.std.specs.Prelude.{◌≡◌};
+ghost use Rattle.sw_lex.specs.Tables.{same_kind};
+
 use sw_base::{Span, Text};
 
 /// What a token is: a reserved word, a name, a literal or a part of one, a mark, or the end.
@@ -203,4 +206,11 @@ pub struct Token {
     pub touches: bool,
     /// White space stands directly before it. A comment is none.
     pub after_space: bool,
+}
+
+/// Tells whether two kinds are one.
+pub fn same_kind(a: TokenKind, b: TokenKind) -> bool
+    ensures { result ≡ same_kind a b }
+{
+    a == b
 }

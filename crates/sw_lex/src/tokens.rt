@@ -1,7 +1,10 @@
 //! The tokens of a source.
 
-ghost use Rattle.std.specs.Prelude.{◌≡◌, ◌<◌, ◌+◌, ◌^◌, OnSome, length, slice_get, option_map, Some};
-ghost use Rattle.sw_lex.specs.Tokens.{AreInOrder, token_of};
+ghost use Rattle.std.specs.Prelude.{◌≡◌, ◌≤◌, ◌<◌, ◌+◌, ◌^◌, OnSome, length, slice_get, option_map, Some};
+ghost use Rattle.sw_base.specs.Limits.{greatest_integer};
+ghost use Rattle.sw_lex.specs.Lexing.{AreLexed};
+ghost use Rattle.sw_lex.specs.Rules.{number};
+ghost use Rattle.sw_lex.specs.Tokens.{AreInOrder, EndsOnce, token_of};
 
 use crate::kept::KeptTokens;
 use crate::token::TokenKind;
@@ -24,7 +27,8 @@ pub struct TokenRef<'a> {
     pub after_space: bool,
 }
 
-/// The tokens of a source, which contracts see as the list of them. Each stands before those that follow it.
+/// The tokens of a source, which contracts see as the list of them. Each stands before those that follow it, the
+/// last and no other is the end of the source, and no integer is above the greatest.
 #[derive(Debug, Drop)]
 pub struct Tokens {
     kept: KeptTokens,
@@ -33,19 +37,19 @@ pub struct Tokens {
 impl Model for Tokens {
     ghost use Rattle.std.specs.Prelude.{List};
     ghost use Rattle.sw_lex.specs.declared.token.Token.{Token};
-    ghost use Rattle.sw_lex.specs.Tokens.{AreInOrder};
+    ghost use Rattle.sw_lex.specs.Lexing.{AreLexed};
 
     ghost Value = { List Token };
 
     ghost view = { λ tokens. tokens.kept };
 
-    ghost invariant = { λ tokens. AreInOrder tokens.kept };
+    ghost invariant = { λ tokens. AreLexed tokens.kept };
 }
 
 impl Tokens {
-    /// These tokens, which are known to be in the order of their places.
+    /// These tokens, of which all that is known to be true.
     pub(crate) fn new(kept: KeptTokens) -> Tokens
-        requires { AreInOrder kept }
+        requires { AreLexed kept }
         ensures { result ≡ kept }
     {
         Tokens { kept }
@@ -53,7 +57,8 @@ impl Tokens {
 
     /// The number of tokens.
     pub fn len(&self) -> usize
-        ensures { result ≡ length self.now }
+        ensures value { result ≡ length self.now }
+        ensures ended { EndsOnce self.now }
     {
         self.kept.len()
     }
@@ -77,6 +82,7 @@ impl Tokens {
         ensures token { slice_get self.now at ≡ Some (token_of result) }
         ensures countable { at + 1 < 2 ^ 64 }
         ensures ordered { AreInOrder self.now }
+        ensures fits { result.kind ≡ TokenKind.Integer → number 0 result.text.now ≤ greatest_integer }
     {
         self.kept.at(at)
     }

@@ -7,7 +7,7 @@ use Rattle.std.proofs.lemmas.List.{take_all, length-take}
 not_cut : (n : ℕ) (left : List ℕ) → length (take (n + 1) left) ≤ n → take (n + 1) left ≡ left
 not_cut n left short = take_all (n + 1) left (omega (arith, short, length-take (n + 1) left))
 
--- so a short reading has all that was left
+-- so a read that is short has all that was left
 pub whole : {Reader : Type 0} (remaining : Reader → Option (List ℕ)) (reader inner : Reader) (limit n : ℕ) (start bytes : List ℕ)
     → inner ≡ reader → limit ≡ n + 1 → start ≡ [] → IfSome (option_map (take limit) (remaining inner)) (λ read. bytes ≡ start ++ read) → length bytes ≤ n
     → IfSome (remaining reader) (λ left. bytes ≡ left)

@@ -11,14 +11,14 @@ abbrev pub largest : ℕ
 largest = 1073741824
 
 -- what opens the files, the names asked, the texts given, each after its name, and the number of faults
-pub record FileLoading (Opener : Type 0) : Type 0 where
+pub record FileLoaderView (Opener : Type 0) : Type 0 where
   pub opener : Opener
   pub asked : List (List ℕ)
   pub given : List (List ℕ × List ℕ)
   pub faults : ℕ
 
 -- a load with its answer
-abbrev pub FileLoads : {Opener : Type 0} → FileLoading Opener → List ℕ → FileLoading Opener → Result (List ℕ) LoadError → Type 0
+abbrev pub FileLoads : {Opener : Type 0} → FileLoaderView Opener → List ℕ → FileLoaderView Opener → Result (List ℕ) LoadError → Type 0
 FileLoads old name new (Ok text) = new ≡ record old { asked = old.asked ++ name ∷ []; given = old.given ++ (name, text) ∷ [] }
 FileLoads old name new (Err Failed) = new ≡ record old { asked = old.asked ++ name ∷ []; faults = next_of old.faults }
 FileLoads old name new (Err NoMemory) = new ≡ old

@@ -2,7 +2,7 @@
 pub mod Causes
 pub mod Counts
 pub mod Files
-pub mod Loading
-pub mod Output
-pub mod Sinking
+pub mod MemLoaderView
+pub mod OutSinkView
+pub mod MemSinkView
 pub mod Words

@@ -24,9 +24,9 @@ pub struct FileLoader<O> {
 }
 
 impl<O> Model for FileLoader<O> {
-    ghost use Rattle.sw_outside.specs.Files.{FileLoading};
+    ghost use Rattle.sw_outside.specs.Files.{FileLoaderView};
 
-    ghost Value = { FileLoading O };
+    ghost Value = { FileLoaderView O };
 
     ghost view = { λ loader. record {
       opener = loader.opener;

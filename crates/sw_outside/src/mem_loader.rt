@@ -2,7 +2,7 @@
 
 ghost use Rattle.std.specs.Prelude.{◌≡◌, [], ◌∷◌, ◌++◌, OnOk, OnErr};
 ghost use Rattle.std.specs.Option.{option_copied};
-ghost use Rattle.sw_outside.specs.Loading.{held_at, Loads};
+ghost use Rattle.sw_outside.specs.MemLoaderView.{held_at, Loads};
 ghost use Rattle.sw_outside.specs.Counts.{is_in};
 
 use crate::log::TextLog;
@@ -28,9 +28,9 @@ pub struct MemLoader {
 }
 
 impl Model for MemLoader {
-    ghost use Rattle.sw_outside.specs.Loading.{Loading};
+    ghost use Rattle.sw_outside.specs.MemLoaderView.{MemLoaderView};
 
-    ghost Value = { Loading };
+    ghost Value = { MemLoaderView };
 
     ghost view = { λ loader. record {
       held = loader.held;

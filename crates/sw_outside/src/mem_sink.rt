@@ -1,7 +1,7 @@
 //! A sink in memory, with a room reserved when it is made, some calls of which are to fail.
 
 ghost use Rattle.std.specs.Prelude.{◌≡◌, ◌<◌, [], ◌∷◌, ◌++◌, length, IfOk, OnOk, OnErr};
-ghost use Rattle.sw_outside.specs.Sinking.{Writes};
+ghost use Rattle.sw_outside.specs.MemSinkView.{Writes};
 
 use crate::outside::{Failed, Sink};
 use std::alloc::Global;
@@ -24,9 +24,9 @@ pub struct MemSink {
 
 impl Model for MemSink {
     ghost use Rattle.std.specs.Prelude.{◌≤◌, length, vec_capacity};
-    ghost use Rattle.sw_outside.specs.Sinking.{Sinking};
+    ghost use Rattle.sw_outside.specs.MemSinkView.{MemSinkView};
 
-    ghost Value = { Sinking };
+    ghost Value = { MemSinkView };
 
     ghost view = { λ sink. record {
       room = sink.room;

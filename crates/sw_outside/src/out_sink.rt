@@ -2,7 +2,7 @@
 
 ghost use Rattle.std.specs.Prelude.{◌≡◌, ◌<◌, [], length};
 ghost use Rattle.std.specs.Io.KnownBytes.{WriteAppends};
-ghost use Rattle.sw_outside.specs.Output.{OutputWrites};
+ghost use Rattle.sw_outside.specs.OutSinkView.{OutputWrites};
 
 use crate::log::ByteLog;
 use crate::outside::{Failed, Sink};
@@ -20,9 +20,9 @@ pub struct OutSink<W> {
 }
 
 impl<W> Model for OutSink<W> {
-    ghost use Rattle.sw_outside.specs.Output.{Output};
+    ghost use Rattle.sw_outside.specs.OutSinkView.{OutSinkView};
 
-    ghost Value = { Output W };
+    ghost Value = { OutSinkView W };
 
     ghost view = { λ sink. record { writer = sink.writer; taken = sink.taken.bytes; faults = sink.faults } };
 }

@@ -3,11 +3,11 @@ use Rattle.std.proofs.Common.{◌≡◌, ℕ, Bool, false, List, [], sym, ◌∙
 use Rattle.sw_grammar.specs.Reading.{got, ◌>>=◌, at_first}
 use Rattle.sw_syntax.specs.Bodies.{body_from}
 use Rattle.sw_syntax.specs.Members.{accessor_part}
-use Rattle.sw_syntax.specs.Symbols.{InBlock}
+use Rattle.sw_syntax.specs.Nonterminals.{InBlock}
 use Rattle.sw_syntax.specs.Tests.{is_getter}
 use Rattle.sw_syntax.specs.Tokens.{Sighted}
-use Rattle.sw_syntax.proofs.MemberSteps.{accessor_body}
-use Rattle.sw_syntax.proofs.Steps.{bind_assoc}
+use Rattle.sw_syntax.proofs.MemberEquations.{accessor_body}
+use Rattle.sw_syntax.proofs.Equations.{bind_assoc}
 use Rattle.sw_tree.specs.declared.decl.Accessor.TheVariants as accessor
 use Rattle.sw_parse_stmt.specs.Statements.{statement_list}
 

@@ -2,68 +2,65 @@
 
 ghost use Rattle.std.specs.Prelude.{◌≤◌, drop, length};
 ghost use Rattle.sw_syntax.specs.Members.{conformances, heading_from, typealias_part};
-ghost use Rattle.sw_syntax.specs.Reading.{Gives, Inside, Moves, Stays};
+ghost use Rattle.sw_syntax.specs.ReadResults.{Gives, Inside, Moves, Stays};
 
-use crate::nodes;
+use crate::builders;
 use sqlite_items::Items;
 use std::alloc::Global;
 use sw_lex::TokenKind;
 use sw_parse_expr::type_;
-use sw_syntax::{Room, Source, Stop, Test, trimmed};
+use sw_syntax::{Budget, Read, Test, TokenView, trimmed};
 use sw_tree::{Heading, Modifier, Name, Typealias};
 
-/// What was read, the place after it, and how many more parts may be counted.
-type Reading<T> = Result<(T, usize, u8), Stop>;
-
-/// The names behind a `:`, if one stands there.
+/// The names after a `:`, if one stands there.
 fn conformances(
     alloc: Global,
-    source: &Source,
+    view: &TokenView,
     lenient: bool,
     at: usize,
-    room: Room,
-) -> Reading<Items<Name>>
-    requires { at ≤ length source.now }
-    ensures gives { Gives source.now result (conformances lenient room.brackets room.limit room.left (drop at source.now)) }
+    budget: Budget,
+) -> Read<Items<Name>>
+    requires { at ≤ length view.now }
+    ensures gives { Gives view.now result (conformances lenient budget.brackets budget.limit budget.left (drop at view.now)) }
     ensures stays { Stays at result }
-    ensures inside { Inside (length source.now) result }
+    ensures inside { Inside (length view.now) result }
 {
     let mut xs = Items::new(alloc);
-    if !source.is(at, Test::Is(TokenKind::Colon)) {
-        return Ok((xs, at, room.left));
+    if !view.is(at, Test::Is(TokenKind::Colon)) {
+        return Ok((xs, at, budget.left));
     }
-    let (_, first) = source.take(at);
-    let (token, mut end) = source.expect(first, Test::Name)?;
-    let name = nodes::name(token)?;
+    let (_, first) = view.take(at);
+    let (token, mut end) = view.expect(first, Test::Name)?;
+    let name = builders::name(token)?;
     xs.push(name)?;
-    'names: while source.is(end, Test::Is(TokenKind::Comma)) {
-        let (_, next) = source.take(end);
-        let (other, other_end) = source.expect(next, Test::Name)?;
-        let other_name = nodes::name(other)?;
+    'names: while view.is(end, Test::Is(TokenKind::Comma)) {
+        let (_, next) = view.take(end);
+        let (other, other_end) = view.expect(next, Test::Name)?;
+        let other_name = builders::name(other)?;
         xs.push(other_name)?;
         end = other_end;
     }
     let kept = trimmed(alloc, xs)?;
-    Ok((kept, end, room.left))
+    Ok((kept, end, budget.left))
 }
 
-/// The heading of a type behind its modifiers and its word.
+/// The heading of a type after its modifiers and its word.
 pub fn heading(
     alloc: Global,
-    source: &Source,
+    view: &TokenView,
     lenient: bool,
     modifiers: Items<Modifier>,
     at: usize,
-    room: Room,
-) -> Reading<Heading>
-    requires { at ≤ length source.now }
-    ensures gives { Gives source.now result (heading_from lenient room.brackets room.limit room.left modifiers (drop at source.now)) }
+    budget: Budget,
+) -> Read<Heading>
+    requires { at ≤ length view.now }
+    ensures gives { Gives view.now result (heading_from lenient budget.brackets budget.limit budget.left modifiers (drop at view.now)) }
     ensures moves { Moves at result }
-    ensures inside { Inside (length source.now) result }
+    ensures inside { Inside (length view.now) result }
 {
-    let (token, name_end) = source.expect(at, Test::Name)?;
-    let (conformances, end, left) = conformances(alloc, source, lenient, name_end, room)?;
-    let name = nodes::name(token)?;
+    let (token, name_end) = view.expect(at, Test::Name)?;
+    let (conformances, end, left) = conformances(alloc, view, lenient, name_end, budget)?;
+    let name = builders::name(token)?;
     let heading = Heading {
         modifiers,
         name,
@@ -75,29 +72,29 @@ pub fn heading(
 /// A name for a type.
 pub fn typealias(
     alloc: Global,
-    source: &Source,
+    view: &TokenView,
     lenient: bool,
     at: usize,
-    room: Room,
-) -> Reading<Typealias>
-    requires { at ≤ length source.now }
-    ensures gives { Gives source.now result (typealias_part lenient room.brackets room.limit room.left (drop at source.now)) }
+    budget: Budget,
+) -> Read<Typealias>
+    requires { at ≤ length view.now }
+    ensures gives { Gives view.now result (typealias_part lenient budget.brackets budget.limit budget.left (drop at view.now)) }
     ensures moves { Moves at result }
-    ensures inside { Inside (length source.now) result }
+    ensures inside { Inside (length view.now) result }
 {
-    let (mark, mark_end) = source.expect(at, Test::Is(TokenKind::Typealias))?;
-    let (token, name_end) = source.expect(mark_end, Test::Name)?;
-    let (_, assign_end) = source.expect(name_end, Test::Is(TokenKind::Assign))?;
-    let whole = Room {
-        left: room.limit,
-        ..room
+    let (mark, mark_end) = view.expect(at, Test::Is(TokenKind::Typealias))?;
+    let (token, name_end) = view.expect(mark_end, Test::Name)?;
+    let (_, assign_end) = view.expect(name_end, Test::Is(TokenKind::Assign))?;
+    let whole = Budget {
+        left: budget.limit,
+        ..budget
     };
-    let (target, end, _) = type_(alloc, source, lenient, assign_end, whole)?;
-    let name = nodes::name(token)?;
+    let (target, end, _) = type_(alloc, view, lenient, assign_end, whole)?;
+    let name = builders::name(token)?;
     let typealias = Typealias {
         span: mark.span,
         name,
         target,
     };
-    Ok((typealias, end, room.left))
+    Ok((typealias, end, budget.left))
 }

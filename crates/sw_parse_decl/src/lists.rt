@@ -1,22 +1,22 @@
 //! What separates the items of a list.
 
 ghost use Rattle.std.specs.Prelude.{◌≤◌, length, IfSome};
-ghost use Rattle.sw_parse_decl.specs.Lists.{GoesBehind};
+ghost use Rattle.sw_parse_decl.specs.Lists.{GoesOnAfter};
 
 use sw_lex::TokenKind;
-use sw_syntax::{Opening, Source, Test, stands};
+use sw_syntax::{Opening, Test, TokenView, stands};
 
-/// Where the next item of a list may begin, behind an item that ends at this place, if the list goes on.
-pub fn past_separator(source: &Source, at: usize) -> Option<usize>
-    ensures goes { GoesBehind source.now at result }
+/// Where the next item of a list may begin, after an item that ends at this position, if the list goes on.
+pub fn past_separator(view: &TokenView, at: usize) -> Option<usize>
+    ensures goes { GoesOnAfter view.now at result }
     ensures stays { IfSome result (λ next. at ≤ next) }
-    ensures inside { IfSome result (λ next. next ≤ length source.now) }
+    ensures inside { IfSome result (λ next. next ≤ length view.now) }
 {
-    if source.is(at, Test::Is(TokenKind::Semicolon)) {
-        let (_, next) = source.take(at);
+    if view.is(at, Test::Is(TokenKind::Semicolon)) {
+        let (_, next) = view.take(at);
         return Some(next);
     }
-    if stands(source, at, Opening::NewLine) {
+    if stands(view, at, Opening::NewLine) {
         return Some(at);
     }
     None

@@ -6,32 +6,32 @@ ghost use Rattle.sw_syntax.specs.Members.{flag_part, mark_part};
 
 use sw_base::Span;
 use sw_lex::TokenKind;
-use sw_syntax::{Source, Test};
+use sw_syntax::{Test, TokenView};
 
-/// Tells whether a token of the kind stands at this place, and gives the place after it.
-pub fn flag(source: &Source, kind: TokenKind, at: usize) -> (bool, usize)
-    requires { at ≤ length source.now }
-    ensures gives { (lenient : Bool) (d l left : ℕ) → flag_part lenient kind d l left (drop at source.now) ≡ got result.0 left (drop result.1 source.now) }
+/// Tells whether a token of the kind stands at this position, and gives the position after it.
+pub fn flag(view: &TokenView, kind: TokenKind, at: usize) -> (bool, usize)
+    requires { at ≤ length view.now }
+    ensures gives { (lenient : Bool) (d l left : ℕ) → flag_part lenient kind d l left (drop at view.now) ≡ got result.0 left (drop result.1 view.now) }
     ensures stays { at ≤ result.1 }
-    ensures inside { result.1 ≤ length source.now }
+    ensures inside { result.1 ≤ length view.now }
 {
-    if !source.is(at, Test::Is(kind)) {
+    if !view.is(at, Test::Is(kind)) {
         return (false, at);
     }
-    let (_, end) = source.take(at);
+    let (_, end) = view.take(at);
     (true, end)
 }
 
-/// The span of the token of the kind at this place, if one stands there, and the place after it.
-pub fn mark(source: &Source, kind: TokenKind, at: usize) -> (Option<Span>, usize)
-    requires { at ≤ length source.now }
-    ensures gives { (lenient : Bool) (d l left : ℕ) → mark_part lenient kind d l left (drop at source.now) ≡ got result.0 left (drop result.1 source.now) }
+/// The span of the token of the kind at this position, if one stands there, and the position after it.
+pub fn mark(view: &TokenView, kind: TokenKind, at: usize) -> (Option<Span>, usize)
+    requires { at ≤ length view.now }
+    ensures gives { (lenient : Bool) (d l left : ℕ) → mark_part lenient kind d l left (drop at view.now) ≡ got result.0 left (drop result.1 view.now) }
     ensures stays { at ≤ result.1 }
-    ensures inside { result.1 ≤ length source.now }
+    ensures inside { result.1 ≤ length view.now }
 {
-    if !source.is(at, Test::Is(kind)) {
+    if !view.is(at, Test::Is(kind)) {
         return (None, at);
     }
-    let (token, end) = source.take(at);
+    let (token, end) = view.take(at);
     (Some(token.span), end)
 }

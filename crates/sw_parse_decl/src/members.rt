@@ -6,8 +6,8 @@ ghost use Rattle.sw_lex.specs.declared.token.TokenKind.TheVariants as k;
 ghost use Rattle.sw_syntax.specs.Lists.{items_from};
 ghost use Rattle.sw_syntax.specs.Answering.{read};
 ghost use Rattle.sw_syntax.specs.Members.{member_from};
-ghost use Rattle.sw_syntax.specs.Reading.{Gives, Inside, Moves, Stays};
-ghost use Rattle.sw_syntax.specs.Symbols as symbol;
+ghost use Rattle.sw_syntax.specs.ReadResults.{Gives, Inside, Moves, Stays};
+ghost use Rattle.sw_syntax.specs.Nonterminals as nonterminal;
 ghost use Rattle.sw_syntax.specs.Tests.{is};
 
 use crate::headings::typealias;
@@ -21,30 +21,27 @@ use sqlite_items::Items;
 use std::alloc::Global;
 use sw_lex::TokenKind;
 use sw_parse_stmt::block;
-use sw_syntax::{Opening, Room, Source, Stop, Test, stands};
+use sw_syntax::{Budget, Opening, Read, Test, TokenView, stands};
 use sw_tree::{Func, Initializer, Member, Modifier};
 
-/// What was read, the place after it, and how many more parts may be counted.
-type Reading<T> = Result<(T, usize, u8), Stop>;
-
-/// An initializer, behind its modifiers.
+/// An initializer, after its modifiers.
 fn initializer(
     alloc: Global,
-    source: &Source,
+    view: &TokenView,
     lenient: bool,
     modifiers: Items<Modifier>,
     at: usize,
-    room: Room,
-) -> Reading<Member>
-    requires { (at ≤ length source.now) × (at_first (is k.Let) (drop at source.now) ≡ false) × (at_first (is k.Var) (drop at source.now) ≡ false) × (at_first (is k.Func) (drop at source.now) ≡ false) }
-    ensures gives { Gives source.now result (member_from lenient room.brackets room.limit room.left modifiers (drop at source.now)) }
+    budget: Budget,
+) -> Read<Member>
+    requires { (at ≤ length view.now) × (at_first (is k.Let) (drop at view.now) ≡ false) × (at_first (is k.Var) (drop at view.now) ≡ false) × (at_first (is k.Func) (drop at view.now) ≡ false) }
+    ensures gives { Gives view.now result (member_from lenient budget.brackets budget.limit budget.left modifiers (drop at view.now)) }
     ensures moves { Moves at result }
-    ensures inside { Inside (length source.now) result }
+    ensures inside { Inside (length view.now) result }
 {
-    let (mark, mark_end) = source.expect(at, Test::Is(TokenKind::Init))?;
-    let (parameters, parameters_end, left) = parameters(alloc, source, lenient, mark_end, room)?;
-    let (throws, throws_end) = flag(source, TokenKind::Throws, parameters_end);
-    let (body, end, left) = block(alloc, source, lenient, throws_end, Room { left, ..room })?;
+    let (mark, mark_end) = view.expect(at, Test::Is(TokenKind::Init))?;
+    let (parameters, parameters_end, left) = parameters(alloc, view, lenient, mark_end, budget)?;
+    let (throws, throws_end) = flag(view, TokenKind::Throws, parameters_end);
+    let (body, end, left) = block(alloc, view, lenient, throws_end, Budget { left, ..budget })?;
     let initializer = Initializer {
         modifiers,
         span: mark.span,
@@ -55,99 +52,105 @@ fn initializer(
     Ok((Member::Initializer(initializer), end, left))
 }
 
-/// A func, behind its modifiers.
+/// A func, after its modifiers.
 fn func(
     alloc: Global,
-    source: &Source,
+    view: &TokenView,
     lenient: bool,
     modifiers: Items<Modifier>,
     at: usize,
-    room: Room,
-) -> Reading<Member>
-    requires { (at ≤ length source.now) × (at_first (is k.Let) (drop at source.now) ≡ false) × (at_first (is k.Var) (drop at source.now) ≡ false) × (at_first (is k.Func) (drop at source.now) ≡ true) }
-    ensures gives { Gives source.now result (member_from lenient room.brackets room.limit room.left modifiers (drop at source.now)) }
+    budget: Budget,
+) -> Read<Member>
+    requires { (at ≤ length view.now) × (at_first (is k.Let) (drop at view.now) ≡ false) × (at_first (is k.Var) (drop at view.now) ≡ false) × (at_first (is k.Func) (drop at view.now) ≡ true) }
+    ensures gives { Gives view.now result (member_from lenient budget.brackets budget.limit budget.left modifiers (drop at view.now)) }
     ensures moves { Moves at result }
-    ensures inside { Inside (length source.now) result }
+    ensures inside { Inside (length view.now) result }
 {
-    let (signature, signature_end, left) = signature(alloc, source, lenient, modifiers, at, room)?;
-    let (body, end, left) = block(alloc, source, lenient, signature_end, Room { left, ..room })?;
+    let (signature, signature_end, left) = signature(alloc, view, lenient, modifiers, at, budget)?;
+    let (body, end, left) = block(
+        alloc,
+        view,
+        lenient,
+        signature_end,
+        Budget { left, ..budget },
+    )?;
     Ok((Member::Func(Func { signature, body }), end, left))
 }
 
-/// A member, behind its modifiers.
+/// A member, after its modifiers.
 fn modified(
     alloc: Global,
-    source: &Source,
+    view: &TokenView,
     lenient: bool,
     modifiers: Items<Modifier>,
     at: usize,
-    room: Room,
-) -> Reading<Member>
-    requires { at ≤ length source.now }
-    ensures gives { Gives source.now result (member_from lenient room.brackets room.limit room.left modifiers (drop at source.now)) }
+    budget: Budget,
+) -> Read<Member>
+    requires { at ≤ length view.now }
+    ensures gives { Gives view.now result (member_from lenient budget.brackets budget.limit budget.left modifiers (drop at view.now)) }
     ensures moves { Moves at result }
-    ensures inside { Inside (length source.now) result }
+    ensures inside { Inside (length view.now) result }
 {
-    if source.is(at, Test::Is(TokenKind::Let)) {
-        return let_property(alloc, source, lenient, modifiers, at, room);
+    if view.is(at, Test::Is(TokenKind::Let)) {
+        return let_property(alloc, view, lenient, modifiers, at, budget);
     }
-    if source.is(at, Test::Is(TokenKind::Var)) {
-        return var_property(alloc, source, lenient, modifiers, at, room);
+    if view.is(at, Test::Is(TokenKind::Var)) {
+        return var_property(alloc, view, lenient, modifiers, at, budget);
     }
-    if source.is(at, Test::Is(TokenKind::Func)) {
-        return func(alloc, source, lenient, modifiers, at, room);
+    if view.is(at, Test::Is(TokenKind::Func)) {
+        return func(alloc, view, lenient, modifiers, at, budget);
     }
-    initializer(alloc, source, lenient, modifiers, at, room)
+    initializer(alloc, view, lenient, modifiers, at, budget)
 }
 
 /// A member of a type.
 pub fn member(
     alloc: Global,
-    source: &Source,
+    view: &TokenView,
     lenient: bool,
     at: usize,
-    room: Room,
-) -> Reading<Member>
-    requires { at ≤ length source.now }
-    ensures gives { Gives source.now result (read lenient (symbol.Item symbol.Members) room.brackets room.limit room.left (drop at source.now)) }
+    budget: Budget,
+) -> Read<Member>
+    requires { at ≤ length view.now }
+    ensures gives { Gives view.now result (read lenient (nonterminal.Item nonterminal.Members) budget.brackets budget.limit budget.left (drop at view.now)) }
     ensures moves { Moves at result }
-    ensures inside { Inside (length source.now) result }
+    ensures inside { Inside (length view.now) result }
 {
-    if source.is(at, Test::Is(TokenKind::Typealias)) {
-        let (x, end, left) = typealias(alloc, source, lenient, at, room)?;
+    if view.is(at, Test::Is(TokenKind::Typealias)) {
+        let (x, end, left) = typealias(alloc, view, lenient, at, budget)?;
         return Ok((Member::Typealias(x), end, left));
     }
-    let (modifiers, next, left) = modifiers(alloc, source, lenient, at, room)?;
+    let (modifiers, next, left) = modifiers(alloc, view, lenient, at, budget)?;
     modified(
         alloc,
-        source,
+        view,
         lenient,
         modifiers,
         next,
-        Room { left, ..room },
+        Budget { left, ..budget },
     )
 }
 
 /// Members that `;` or line breaks separate, perhaps none.
 pub fn members(
     alloc: Global,
-    source: &Source,
+    view: &TokenView,
     lenient: bool,
     at: usize,
-    room: Room,
-) -> Reading<Items<Member>>
-    requires { at ≤ length source.now }
-    ensures gives { Gives source.now result (items_from lenient symbol.Members room.brackets room.limit room.left [] (drop at source.now)) }
+    budget: Budget,
+) -> Read<Items<Member>>
+    requires { at ≤ length view.now }
+    ensures gives { Gives view.now result (items_from lenient nonterminal.Members budget.brackets budget.limit budget.left [] (drop at view.now)) }
     ensures stays { Stays at result }
-    ensures inside { Inside (length source.now) result }
+    ensures inside { Inside (length view.now) result }
 {
     let mut xs = Items::new(alloc);
     let mut end = at;
-    let mut left = room.left;
-    'items: while stands(source, end, Opening::Member) {
-        let (x, x_end, x_left) = member(alloc, source, lenient, end, Room { left, ..room })?;
+    let mut left = budget.left;
+    'items: while stands(view, end, Opening::Member) {
+        let (x, x_end, x_left) = member(alloc, view, lenient, end, Budget { left, ..budget })?;
         xs.push(x)?;
-        match past_separator(source, x_end) {
+        match past_separator(view, x_end) {
             Some(next) => {
                 end = next;
                 left = x_left;

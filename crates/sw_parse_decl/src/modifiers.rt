@@ -2,37 +2,34 @@
 
 ghost use Rattle.std.specs.Prelude.{◌≤◌, [], drop, length};
 ghost use Rattle.sw_syntax.specs.Members.{mods_from};
-ghost use Rattle.sw_syntax.specs.Reading.{Gives, Inside, Stays};
+ghost use Rattle.sw_syntax.specs.ReadResults.{Gives, Inside, Stays};
 
-use crate::nodes;
+use crate::builders;
 use sqlite_items::Items;
 use std::alloc::Global;
-use sw_syntax::{Opening, Room, Source, Stop, stands, trimmed};
+use sw_syntax::{Budget, Opening, Read, TokenView, stands, trimmed};
 use sw_tree::Modifier;
 
-/// What was read, the place after it, and how many more parts may be counted.
-type Reading<T> = Result<(T, usize, u8), Stop>;
-
-/// The modifiers at this place, perhaps none.
+/// The modifiers at this position, perhaps none.
 pub fn modifiers(
     alloc: Global,
-    source: &Source,
+    view: &TokenView,
     lenient: bool,
     at: usize,
-    room: Room,
-) -> Reading<Items<Modifier>>
-    requires { at ≤ length source.now }
-    ensures gives { Gives source.now result (mods_from lenient room.brackets room.limit room.left [] (drop at source.now)) }
+    budget: Budget,
+) -> Read<Items<Modifier>>
+    requires { at ≤ length view.now }
+    ensures gives { Gives view.now result (mods_from lenient budget.brackets budget.limit budget.left [] (drop at view.now)) }
     ensures stays { Stays at result }
-    ensures inside { Inside (length source.now) result }
+    ensures inside { Inside (length view.now) result }
 {
     let mut xs = Items::new(alloc);
     let mut end = at;
-    'modifiers: while stands(source, end, Opening::Modifier) {
-        let (token, next) = source.take(end);
-        xs.push(nodes::modifier(token))?;
+    'modifiers: while stands(view, end, Opening::Modifier) {
+        let (token, next) = view.take(end);
+        xs.push(builders::modifier(token))?;
         end = next;
     }
     let kept = trimmed(alloc, xs)?;
-    Ok((kept, end, room.left))
+    Ok((kept, end, budget.left))
 }

@@ -6,97 +6,94 @@ ghost use Rattle.sw_lex.specs.declared.token.TokenKind.TheVariants as k;
 ghost use Rattle.sw_syntax.specs.Lists.{items_from};
 ghost use Rattle.sw_syntax.specs.Answering.{read};
 ghost use Rattle.sw_syntax.specs.Members.{get_block};
-ghost use Rattle.sw_syntax.specs.Reading.{Gives, Inside, Moves, Stays, met};
-ghost use Rattle.sw_syntax.specs.Symbols as symbol;
+ghost use Rattle.sw_syntax.specs.ReadResults.{Gives, Inside, Moves, Stays, met};
+ghost use Rattle.sw_syntax.specs.Nonterminals as nonterminal;
 ghost use Rattle.sw_syntax.specs.Tests.{is};
 
+use crate::builders;
 use crate::lists::past_separator;
 use crate::modifiers::modifiers;
-use crate::nodes;
 use crate::signatures::signature;
 use sqlite_items::Items;
 use std::alloc::Global;
 use sw_lex::{TokenKind, TokenRef};
 use sw_parse_expr::type_;
-use sw_syntax::{Opening, Room, Source, Stop, Test, expect_opening, stands};
+use sw_syntax::{Budget, Opening, Read, Stop, Test, TokenView, expect_opening, stands};
 use sw_tree::Requirement;
 
-/// What was read, the place after it, and how many more parts may be counted.
-type Reading<T> = Result<(T, usize, u8), Stop>;
-
-/// The `get` between the braces of a property, and the place behind the braces.
+/// The `get` between the braces of a property, and the position after the braces.
 fn get_block<'a>(
-    source: &Source<'a>,
+    view: &TokenView<'a>,
     lenient: bool,
     at: usize,
-    room: Room,
+    budget: Budget,
 ) -> Result<(TokenRef<'a>, usize), Stop>
-    ensures gives { Gives source.now (met room.left result) (get_block lenient room.brackets room.limit room.left (drop at source.now)) }
+    ensures gives { Gives view.now (met budget.left result) (get_block lenient budget.brackets budget.limit budget.left (drop at view.now)) }
     ensures moves { Moves at (met 0 result) }
-    ensures inside { Inside (length source.now) (met 0 result) }
+    ensures inside { Inside (length view.now) (met 0 result) }
 {
-    if !source.is(at, Test::Is(TokenKind::LeftBrace)) {
-        return Err(Stop::Refused(at, false));
+    if !view.is(at, Test::Is(TokenKind::LeftBrace)) {
+        return Err(Stop::Refused { at, over: false });
     }
-    if room.brackets == 0 {
-        return Err(Stop::Refused(at, true));
+    if budget.brackets == 0 {
+        return Err(Stop::Refused { at, over: true });
     }
-    let (_, next) = source.take(at);
-    let (get, get_end) = expect_opening(source, next, Opening::Get)?;
-    let (_, end) = source.expect(get_end, Test::Is(TokenKind::RightBrace))?;
+    let (_, next) = view.take(at);
+    let (get, get_end) = expect_opening(view, next, Opening::Get)?;
+    let (_, end) = view.expect(get_end, Test::Is(TokenKind::RightBrace))?;
     Ok((get, end))
 }
 
 /// A property that a protocol requires.
 fn property(
     alloc: Global,
-    source: &Source,
+    view: &TokenView,
     lenient: bool,
     at: usize,
-    room: Room,
-) -> Reading<Requirement>
-    requires { (at_first (is k.Var) (drop at source.now) ≡ true) × (at < length source.now) }
-    ensures gives { Gives source.now result (read lenient (symbol.Item symbol.Requirements) room.brackets room.limit room.left (drop at source.now)) }
+    budget: Budget,
+) -> Read<Requirement>
+    requires { (at_first (is k.Var) (drop at view.now) ≡ true) × (at < length view.now) }
+    ensures gives { Gives view.now result (read lenient (nonterminal.Item nonterminal.Requirements) budget.brackets budget.limit budget.left (drop at view.now)) }
     ensures moves { Moves at result }
-    ensures inside { Inside (length source.now) result }
+    ensures inside { Inside (length view.now) result }
 {
-    let (_, name_at) = source.take(at);
-    let (token, name_end) = source.expect(name_at, Test::Name)?;
-    let (_, type_at) = source.expect(name_end, Test::Is(TokenKind::Colon))?;
-    let whole = Room {
-        left: room.limit,
-        ..room
+    let (_, name_at) = view.take(at);
+    let (token, name_end) = view.expect(name_at, Test::Name)?;
+    let (_, type_at) = view.expect(name_end, Test::Is(TokenKind::Colon))?;
+    let whole = Budget {
+        left: budget.limit,
+        ..budget
     };
-    let (declared, type_end, _) = type_(alloc, source, lenient, type_at, whole)?;
-    let (_, end) = get_block(source, lenient, type_end, room)?;
-    let name = nodes::name(token)?;
-    Ok((Requirement::Property(name, declared), end, room.left))
+    let (declared, type_end, _) = type_(alloc, view, lenient, type_at, whole)?;
+    let (_, end) = get_block(view, lenient, type_end, budget)?;
+    let name = builders::name(token)?;
+    Ok((Requirement::Property(name, declared), end, budget.left))
 }
 
 /// A requirement of a protocol.
 fn requirement(
     alloc: Global,
-    source: &Source,
+    view: &TokenView,
     lenient: bool,
     at: usize,
-    room: Room,
-) -> Reading<Requirement>
-    requires { at ≤ length source.now }
-    ensures gives { Gives source.now result (read lenient (symbol.Item symbol.Requirements) room.brackets room.limit room.left (drop at source.now)) }
+    budget: Budget,
+) -> Read<Requirement>
+    requires { at ≤ length view.now }
+    ensures gives { Gives view.now result (read lenient (nonterminal.Item nonterminal.Requirements) budget.brackets budget.limit budget.left (drop at view.now)) }
     ensures moves { Moves at result }
-    ensures inside { Inside (length source.now) result }
+    ensures inside { Inside (length view.now) result }
 {
-    if source.is(at, Test::Is(TokenKind::Var)) {
-        return property(alloc, source, lenient, at, room);
+    if view.is(at, Test::Is(TokenKind::Var)) {
+        return property(alloc, view, lenient, at, budget);
     }
-    let (modifiers, next, left) = modifiers(alloc, source, lenient, at, room)?;
+    let (modifiers, next, left) = modifiers(alloc, view, lenient, at, budget)?;
     let (x, end, left) = signature(
         alloc,
-        source,
+        view,
         lenient,
         modifiers,
         next,
-        Room { left, ..room },
+        Budget { left, ..budget },
     )?;
     Ok((Requirement::Func(x), end, left))
 }
@@ -104,23 +101,23 @@ fn requirement(
 /// Requirements that `;` or line breaks separate, perhaps none.
 pub fn requirements(
     alloc: Global,
-    source: &Source,
+    view: &TokenView,
     lenient: bool,
     at: usize,
-    room: Room,
-) -> Reading<Items<Requirement>>
-    requires { at ≤ length source.now }
-    ensures gives { Gives source.now result (items_from lenient symbol.Requirements room.brackets room.limit room.left [] (drop at source.now)) }
+    budget: Budget,
+) -> Read<Items<Requirement>>
+    requires { at ≤ length view.now }
+    ensures gives { Gives view.now result (items_from lenient nonterminal.Requirements budget.brackets budget.limit budget.left [] (drop at view.now)) }
     ensures stays { Stays at result }
-    ensures inside { Inside (length source.now) result }
+    ensures inside { Inside (length view.now) result }
 {
     let mut xs = Items::new(alloc);
     let mut end = at;
-    let mut left = room.left;
-    'items: while stands(source, end, Opening::Requirement) {
-        let (x, x_end, x_left) = requirement(alloc, source, lenient, end, Room { left, ..room })?;
+    let mut left = budget.left;
+    'items: while stands(view, end, Opening::Requirement) {
+        let (x, x_end, x_left) = requirement(alloc, view, lenient, end, Budget { left, ..budget })?;
         xs.push(x)?;
-        match past_separator(source, x_end) {
+        match past_separator(view, x_end) {
             Some(next) => {
                 end = next;
                 left = x_left;

@@ -3,13 +3,13 @@ use Rattle.std.proofs.Common.{◌≡◌, ℕ, zero, suc, Bool, false, Option, Li
 use Rattle.sw_base.specs.declared.ids.Span.{Span}
 use Rattle.sw_lex.specs.Bytes.{Text}
 use Rattle.sw_lex.specs.declared.token.TokenKind.TheVariants as k
-use Rattle.sw_grammar.specs.Reading.{Out, got, bad, stuck, ◌>>=◌, at_first, one}
+use Rattle.sw_grammar.specs.Reading.{Out, got, rejected, unexpected, ◌>>=◌, at_first, one}
 use Rattle.sw_syntax.specs.Answering.{read}
-use Rattle.sw_syntax.specs.Symbols.{Base}
+use Rattle.sw_syntax.specs.Nonterminals.{BaseType}
 use Rattle.sw_syntax.specs.Tests.{is, is_name}
 use Rattle.sw_syntax.specs.Tokens.{Sighted}
-use Rattle.sw_syntax.proofs.Steps.{one_none}
-use Rattle.sw_syntax.proofs.TypeSteps.{base_none_deep, base_void}
+use Rattle.sw_syntax.proofs.Equations.{one_none}
+use Rattle.sw_syntax.proofs.TypeEquations.{base_none_deep, base_void}
 use Rattle.sw_tree.specs.declared.expr.Name.{Name}
 use Rattle.sw_tree.specs.declared.types.«Type».{«Type» as TypeTree}
 use Rattle.sw_tree.specs.declared.types.«Type».TheVariants as tree
@@ -28,7 +28,7 @@ string_node at text done pieces x last p left r all piece =
     ap (λ z. got (e.Literal at (literal.String text z)) left r) (ap (λ q. done ++ q ∷ []) (sym piece) ∙ sym all)
 
 -- nothing that a type begins with
-pub base_none : (lenient : Bool) (d l c : ℕ) (ts : List Sighted) → at_first is_name ts ≡ false → at_first (is k.LeftBracket) ts ≡ false → at_first (is k.Any) ts ≡ false → at_first (is k.LeftParen) ts ≡ false → read lenient Base d l c ts ≡ bad stuck ts
+pub base_none : (lenient : Bool) (d l c : ℕ) (ts : List Sighted) → at_first is_name ts ≡ false → at_first (is k.LeftBracket) ts ≡ false → at_first (is k.Any) ts ≡ false → at_first (is k.LeftParen) ts ≡ false → read lenient BaseType d l c ts ≡ rejected unexpected ts
 base_none lenient zero l c ts h0 h1 h2 h = base_none_deep lenient 0 l c ts h0 h1 h2 h refl
 base_none lenient (suc d) l c ts h0 h1 h2 h = base_void lenient (suc d) l c ts h0 h1 h2 (λ e. absurd (omega (arith, e)))
     ∙ ap (λ o. o >>= (λ f c1 r1. one (is k.RightParen) c1 r1 >>= (λ _ c2 r2. got (tree.Void f.span) c2 r2))) (one_none (is k.LeftParen) c ts h)

@@ -13,6 +13,6 @@ number_grows n (b ∷ z) = branch (b == 95) (number_grows n z) (number_grows (n 
     branch true p q = p
     branch false p q = omega (arith, p, q)
 
--- the digit at a place, and those behind it
+-- the digit at a place, and those after it
 pub number_next : (n i : ℕ) (z : Text) → i < length z → number n (drop i z) ≡ number (number n (slice_index z i ∷ [])) (drop (i + 1) z)
 number_next n i z h = ap (λ y. number n y) (drop_more z i 0 h)

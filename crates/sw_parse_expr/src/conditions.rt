@@ -3,19 +3,16 @@
 ghost use Rattle.std.specs.Prelude.{◌≡◌, ◌<◌, ◌≤◌, drop, length};
 ghost use Rattle.sw_syntax.specs.Bodies.{initial_part};
 ghost use Rattle.sw_syntax.specs.Answering.{read};
-ghost use Rattle.sw_syntax.specs.Reading.{Gives, Inside, Moves, Stays};
-ghost use Rattle.sw_syntax.specs.Symbols as symbol;
+ghost use Rattle.sw_syntax.specs.ReadResults.{Gives, Inside, Moves, Stays};
+ghost use Rattle.sw_syntax.specs.Nonterminals as nonterminal;
 ghost use Rattle.sw_syntax.specs.Values as value;
 
+use crate::builders;
 use crate::expressions::expr;
-use crate::nodes;
 use std::alloc::Global;
 use sw_lex::TokenKind;
-use sw_syntax::{Room, Source, Stop, Test};
+use sw_syntax::{Budget, Read, Test, TokenView};
 use sw_tree::{Binding, Condition, Expr};
-
-/// What was read, the place after it, and how many more parts may be counted.
-type Reading<T> = Result<(T, usize, u8), Stop>;
 
 fn binding(kind: TokenKind) -> Binding
     ensures { result ≡ value.binding_of kind }
@@ -26,55 +23,55 @@ fn binding(kind: TokenKind) -> Binding
     }
 }
 
-/// The expression behind `=`, if one stands at this place.
+/// The expression after `=`, if one stands at this position.
 pub fn initial_value(
     alloc: Global,
-    source: &Source,
+    view: &TokenView,
     lenient: bool,
     at: usize,
-    room: Room,
-) -> Reading<Option<Expr>>
-    requires { at ≤ length source.now }
-    ensures gives { Gives source.now result (initial_part lenient room.brackets room.limit room.left (drop at source.now)) }
+    budget: Budget,
+) -> Read<Option<Expr>>
+    requires { at ≤ length view.now }
+    ensures gives { Gives view.now result (initial_part lenient budget.brackets budget.limit budget.left (drop at view.now)) }
     ensures stays { Stays at result }
-    ensures inside { Inside (length source.now) result }
+    ensures inside { Inside (length view.now) result }
 {
-    if !source.is(at, Test::Is(TokenKind::Assign)) {
-        return Ok((None, at, room.left));
+    if !view.is(at, Test::Is(TokenKind::Assign)) {
+        return Ok((None, at, budget.left));
     }
-    let (_, next) = source.take(at);
-    let own = Room {
-        left: room.limit,
-        ..room
+    let (_, next) = view.take(at);
+    let own = Budget {
+        left: budget.limit,
+        ..budget
     };
-    let (x, end, _) = expr(alloc, source, lenient, next, own)?;
-    Ok((Some(x), end, room.left))
+    let (x, end, _) = expr(alloc, view, lenient, next, own)?;
+    Ok((Some(x), end, budget.left))
 }
 
-/// The condition at this place.
+/// The condition at this position.
 pub fn condition(
     alloc: Global,
-    source: &Source,
+    view: &TokenView,
     lenient: bool,
     at: usize,
-    room: Room,
-) -> Reading<Condition>
-    requires { at ≤ length source.now }
-    ensures gives { Gives source.now result (read lenient symbol.Cond room.brackets room.limit room.left (drop at source.now)) }
+    budget: Budget,
+) -> Read<Condition>
+    requires { at ≤ length view.now }
+    ensures gives { Gives view.now result (read lenient nonterminal.Condition budget.brackets budget.limit budget.left (drop at view.now)) }
     ensures moves { Moves at result }
-    ensures inside { Inside (length source.now) result }
+    ensures inside { Inside (length view.now) result }
 {
-    if source.is(at, Test::Expr) {
-        let own = Room {
-            left: room.limit,
-            ..room
+    if view.is(at, Test::Expr) {
+        let own = Budget {
+            left: budget.limit,
+            ..budget
         };
-        let (x, end, _) = expr(alloc, source, lenient, at, own)?;
-        return Ok((Condition::Expr(x), end, room.left));
+        let (x, end, _) = expr(alloc, view, lenient, at, own)?;
+        return Ok((Condition::Expr(x), end, budget.left));
     }
-    let (mark, mark_end) = source.expect(at, Test::LetOrVar)?;
-    let (token, token_end) = source.expect(mark_end, Test::Name)?;
-    let (x, end, left) = initial_value(alloc, source, lenient, token_end, room)?;
-    let name = nodes::name(token)?;
+    let (mark, mark_end) = view.expect(at, Test::LetOrVar)?;
+    let (token, token_end) = view.expect(mark_end, Test::Name)?;
+    let (x, end, left) = initial_value(alloc, view, lenient, token_end, budget)?;
+    let name = builders::name(token)?;
     Ok((Condition::Bind(binding(mark.kind), name, x), end, left))
 }

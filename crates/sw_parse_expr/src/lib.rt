@@ -2,13 +2,13 @@
 //!
 //! Each function of `expressions` reads a part of the grammar and answers as its reader does: the value, the
 //! place after it and how many more parts may be counted, or the token that is refused and whether it is
-//! refused for want of room alone. `parse` gives the whole answer, with the rule that is broken.
+//! refused since the budget alone is exceeded. `parse` gives the whole answer, with the rule that is broken.
 #![tactic(auto)]
 
+mod builders;
 mod conditions;
 mod expressions;
 mod literals;
-mod nodes;
 mod parse;
 mod pattern_literals;
 mod patterns;

@@ -1,6 +1,7 @@
 //! The values of literals.
 
 ghost use Rattle.std.specs.Prelude.{◌≡◌, ◌≤◌, ◌∷◌, [], IfOk, pos};
+ghost use Rattle.sw_base.specs.Limits.{greatest_integer};
 ghost use Rattle.sw_lex.specs.Rules.{number};
 ghost use Rattle.sw_syntax.specs.Sights.{lent_face};
 ghost use Rattle.sw_syntax.specs.Values as spec;
@@ -11,9 +12,9 @@ use sw_base::{Duplicate, NoMemory, Text};
 use sw_lex::{TokenKind, TokenRef};
 use sw_tree::{Expr, Literal, StringPiece};
 
-/// A number with one more digit, or with a `_` behind it.
+/// A number with one more digit, or with a `_` after it.
 fn with_digit(so_far: u64, byte: u8) -> u64
-    requires { number so_far (byte ∷ []) ≤ 9223372036854775807 }
+    requires { number so_far (byte ∷ []) ≤ greatest_integer }
     ensures { result ≡ number so_far (byte ∷ []) }
 {
     if byte == b'_' {
@@ -24,7 +25,7 @@ fn with_digit(so_far: u64, byte: u8) -> u64
 
 /// The number of these digits.
 fn number_of(digits: &[u8]) -> i64
-    requires { number 0 digits.now ≤ 9223372036854775807 }
+    requires { number 0 digits.now ≤ greatest_integer }
     ensures { result ≡ pos (number 0 digits.now) }
 {
     let mut so_far: u64 = 0;
@@ -36,7 +37,7 @@ fn number_of(digits: &[u8]) -> i64
 
 /// The expression of an integer.
 pub fn integer(alloc: Global, token: TokenRef<'_>) -> Result<Expr, AllocError>
-    requires { number 0 token.text.now ≤ 9223372036854775807 }
+    requires { number 0 token.text.now ≤ greatest_integer }
     ensures { IfOk result (λ x. x ≡ Expr.Literal token.entry.span (spec.integer_of (lent_face token.entry))) }
 {
     let value = Boxed::new(alloc, integer_value(token))?;
@@ -67,7 +68,7 @@ pub fn text(alloc: Global, token: TokenRef<'_>) -> Result<Expr, NoMemory>
     string(alloc, token, Items::new(alloc))
 }
 
-/// A string that begins with this token, and the pieces behind it.
+/// A string that begins with this token, and the pieces after it.
 pub fn string(
     alloc: Global,
     token: TokenRef<'_>,
@@ -79,7 +80,7 @@ pub fn string(
     Ok(Expr::Literal(token.span, Boxed::new(alloc, value)?))
 }
 
-/// An expression of a string, and the text behind it.
+/// An expression of a string, and the text after it.
 pub fn piece(value: Expr, token: TokenRef<'_>) -> Result<StringPiece, NoMemory>
     ensures { IfOk result (λ x. x ≡ record { value = value; text = token.entry.text.now }) }
 {
@@ -89,7 +90,7 @@ pub fn piece(value: Expr, token: TokenRef<'_>) -> Result<StringPiece, NoMemory>
 
 /// The value of an integer.
 pub fn integer_value(token: TokenRef<'_>) -> Literal
-    requires { number 0 token.text.now ≤ 9223372036854775807 }
+    requires { number 0 token.text.now ≤ greatest_integer }
     ensures { result ≡ spec.integer_of (lent_face token.entry) }
 {
     Literal::Integer(number_of(token.text.as_bytes()))
@@ -109,7 +110,7 @@ pub fn text_value(alloc: Global, token: TokenRef<'_>) -> Result<Literal, NoMemor
     string_value(alloc, token, Items::new(alloc))
 }
 
-/// The value of a string that begins with this token, with the pieces behind it.
+/// The value of a string that begins with this token, with the pieces after it.
 pub fn string_value(
     alloc: Global,
     token: TokenRef<'_>,

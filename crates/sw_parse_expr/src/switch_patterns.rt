@@ -5,21 +5,18 @@ ghost use Rattle.sw_grammar.specs.Reading.{at_first};
 ghost use Rattle.sw_lex.specs.declared.token.TokenKind.TheVariants as k;
 ghost use Rattle.sw_syntax.specs.Answering.{read};
 ghost use Rattle.sw_syntax.specs.Patterns.{type_part};
-ghost use Rattle.sw_syntax.specs.Reading.{Gives, Inside, Moves, Stays};
-ghost use Rattle.sw_syntax.specs.Symbols as symbol;
+ghost use Rattle.sw_syntax.specs.ReadResults.{Gives, Inside, Moves, Stays};
+ghost use Rattle.sw_syntax.specs.Nonterminals as nonterminal;
 ghost use Rattle.sw_syntax.specs.Tests.{is, starts_literal};
 
-use crate::nodes;
+use crate::builders;
 use crate::pattern_literals::literal;
 use crate::patterns::binds;
 use std::alloc::Global;
 use sw_base::Span;
 use sw_lex::TokenKind;
-use sw_syntax::{Room, Source, Stop, Test};
+use sw_syntax::{Budget, Read, Test, TokenView};
 use sw_tree::{Literal, Name, Pattern};
-
-/// What was read, the place after it, and how many more parts may be counted.
-type Reading<T> = Result<(T, usize, u8), Stop>;
 
 fn literal_pattern(x: (Span, Literal)) -> Pattern
     ensures { result ≡ Pattern.Literal x.0 x.1 }
@@ -27,60 +24,60 @@ fn literal_pattern(x: (Span, Literal)) -> Pattern
     Pattern::Literal(x.0, x.1)
 }
 
-/// The pattern of a `switch` at this place.
+/// The pattern of a `switch` at this position.
 pub fn pattern(
     alloc: Global,
-    source: &Source,
+    view: &TokenView,
     lenient: bool,
     at: usize,
-    room: Room,
-) -> Reading<Pattern>
-    requires { at ≤ length source.now }
-    ensures gives { Gives source.now result (read lenient symbol.Pat room.brackets room.limit room.left (drop at source.now)) }
+    budget: Budget,
+) -> Read<Pattern>
+    requires { at ≤ length view.now }
+    ensures gives { Gives view.now result (read lenient nonterminal.Pattern budget.brackets budget.limit budget.left (drop at view.now)) }
     ensures moves { Moves at result }
-    ensures inside { Inside (length source.now) result }
+    ensures inside { Inside (length view.now) result }
 {
-    if source.is(at, Test::Is(TokenKind::Underscore)) {
-        let (token, end) = source.take(at);
-        return Ok((Pattern::Any(token.span), end, room.left));
+    if view.is(at, Test::Is(TokenKind::Underscore)) {
+        let (token, end) = view.take(at);
+        return Ok((Pattern::Any(token.span), end, budget.left));
     }
-    if source.is(at, Test::Literal) {
-        let (x, end, left) = literal(alloc, source, lenient, at, room)?;
+    if view.is(at, Test::Literal) {
+        let (x, end, left) = literal(alloc, view, lenient, at, budget)?;
         return Ok((literal_pattern(x), end, left));
     }
-    if source.is(at, Test::Is(TokenKind::Nil)) {
-        let (token, end) = source.take(at);
-        return Ok((Pattern::Nil(token.span), end, room.left));
+    if view.is(at, Test::Is(TokenKind::Nil)) {
+        let (token, end) = view.take(at);
+        return Ok((Pattern::Nil(token.span), end, budget.left));
     }
-    case(alloc, source, lenient, at, room)
+    case(alloc, view, lenient, at, budget)
 }
 
 /// The type before the `.` of a case, if one stands there.
-fn case_type(source: &Source, lenient: bool, at: usize, room: Room) -> Reading<Option<Name>>
-    requires { at ≤ length source.now }
-    ensures gives { Gives source.now result (type_part lenient room.brackets room.limit room.left (drop at source.now)) }
+fn case_type(view: &TokenView, lenient: bool, at: usize, budget: Budget) -> Read<Option<Name>>
+    requires { at ≤ length view.now }
+    ensures gives { Gives view.now result (type_part lenient budget.brackets budget.limit budget.left (drop at view.now)) }
     ensures stays { Stays at result }
-    ensures inside { Inside (length source.now) result }
+    ensures inside { Inside (length view.now) result }
 {
-    if !source.is(at, Test::Name) {
-        return Ok((None, at, room.left));
+    if !view.is(at, Test::Name) {
+        return Ok((None, at, budget.left));
     }
-    let (token, end) = source.take(at);
-    let name = nodes::name(token)?;
-    Ok((Some(name), end, room.left))
+    let (token, end) = view.take(at);
+    let name = builders::name(token)?;
+    Ok((Some(name), end, budget.left))
 }
 
-/// A case of an enum, perhaps with its type before it and with binds behind it.
-fn case(alloc: Global, source: &Source, lenient: bool, at: usize, room: Room) -> Reading<Pattern>
-    requires { (at_first (is k.Underscore) (drop at source.now) ≡ false) × (at_first starts_literal (drop at source.now) ≡ false) × (at_first (is k.Nil) (drop at source.now) ≡ false) × (at ≤ length source.now) }
-    ensures gives { Gives source.now result (read lenient symbol.Pat room.brackets room.limit room.left (drop at source.now)) }
+/// A case of an enum, perhaps with its type before it and with binds after it.
+fn case(alloc: Global, view: &TokenView, lenient: bool, at: usize, budget: Budget) -> Read<Pattern>
+    requires { (at_first (is k.Underscore) (drop at view.now) ≡ false) × (at_first starts_literal (drop at view.now) ≡ false) × (at_first (is k.Nil) (drop at view.now) ≡ false) × (at ≤ length view.now) }
+    ensures gives { Gives view.now result (read lenient nonterminal.Pattern budget.brackets budget.limit budget.left (drop at view.now)) }
     ensures moves { Moves at result }
-    ensures inside { Inside (length source.now) result }
+    ensures inside { Inside (length view.now) result }
 {
-    let (outer, type_end, left) = case_type(source, lenient, at, room)?;
-    let (dot, dot_end) = source.expect(type_end, Test::Is(TokenKind::Dot))?;
-    let (token, token_end) = source.expect(dot_end, Test::Name)?;
-    let (xs, end, left) = binds(alloc, source, lenient, token_end, Room { left, ..room })?;
-    let name = nodes::name(token)?;
+    let (outer, type_end, left) = case_type(view, lenient, at, budget)?;
+    let (dot, dot_end) = view.expect(type_end, Test::Is(TokenKind::Dot))?;
+    let (token, token_end) = view.expect(dot_end, Test::Name)?;
+    let (xs, end, left) = binds(alloc, view, lenient, token_end, Budget { left, ..budget })?;
+    let name = builders::name(token)?;
     Ok((Pattern::Case(outer, dot.span, name, xs), end, left))
 }

@@ -4,19 +4,16 @@ ghost use Rattle.std.specs.Prelude.{◌≡◌, false, ◌<◌, drop, length, tru
 ghost use Rattle.sw_grammar.specs.Reading.{at_first};
 ghost use Rattle.sw_lex.specs.declared.token.TokenKind.TheVariants as k;
 ghost use Rattle.sw_syntax.specs.Answering.{read};
-ghost use Rattle.sw_syntax.specs.Reading.{Gives, Inside, Moves};
-ghost use Rattle.sw_syntax.specs.Symbols as symbol;
+ghost use Rattle.sw_syntax.specs.ReadResults.{Gives, Inside, Moves};
+ghost use Rattle.sw_syntax.specs.Nonterminals as nonterminal;
 ghost use Rattle.sw_syntax.specs.Tests.{is, is_name};
 
-use crate::nodes;
+use crate::builders;
 use sqlite_items::Boxed;
 use std::alloc::{AllocError, Global};
 use sw_lex::TokenKind;
-use sw_syntax::{Room, Source, Stop, Test};
+use sw_syntax::{Budget, Read, Stop, Test, TokenView};
 use sw_tree::Type;
-
-/// What was read, the place after it, and how many more parts may be counted.
-type Reading<T> = Result<(T, usize, u8), Stop>;
 
 fn optional(alloc: Global, wrapped: Type) -> Result<Type, AllocError>
     ensures { IfOk result (λ x. x ≡ Type.Optional wrapped) }
@@ -24,19 +21,28 @@ fn optional(alloc: Global, wrapped: Type) -> Result<Type, AllocError>
     Ok(Type::Optional(Boxed::new(alloc, wrapped)?))
 }
 
-/// The type at this place.
+/// The type at this position.
 #[cycle(types)]
-pub fn type_(alloc: Global, source: &Source, lenient: bool, at: usize, room: Room) -> Reading<Type>
-    ensures gives { Gives source.now result (read lenient symbol.Type' room.brackets room.limit room.left (drop at source.now)) }
+pub fn type_(
+    alloc: Global,
+    view: &TokenView,
+    lenient: bool,
+    at: usize,
+    budget: Budget,
+) -> Read<Type>
+    ensures gives { Gives view.now result (read lenient nonterminal.TypeExpr budget.brackets budget.limit budget.left (drop at view.now)) }
     ensures moves { Moves at result }
-    ensures inside { Inside (length source.now) result }
+    ensures inside { Inside (length view.now) result }
 {
-    let (mut x, mut end, mut left) = base(alloc, source, lenient, at, room)?;
-    'marks: while source.is(end, Test::JoinedQuestion) {
+    let (mut x, mut end, mut left) = base(alloc, view, lenient, at, budget)?;
+    'marks: while view.is(end, Test::JoinedQuestion) {
         if left == 0 {
-            return Err(Stop::Refused(end, true));
+            return Err(Stop::Refused {
+                at: end,
+                over: true,
+            });
         }
-        let (_, next) = source.take(end);
+        let (_, next) = view.take(end);
         x = optional(alloc, x)?;
         end = next;
         left -= 1;
@@ -44,86 +50,86 @@ pub fn type_(alloc: Global, source: &Source, lenient: bool, at: usize, room: Roo
     Ok((x, end, left))
 }
 
-/// A type without `?` behind it.
+/// A type without `?` after it.
 #[cycle(types)]
-fn base(alloc: Global, source: &Source, lenient: bool, at: usize, room: Room) -> Reading<Type>
-    ensures gives { Gives source.now result (read lenient symbol.Base room.brackets room.limit room.left (drop at source.now)) }
+fn base(alloc: Global, view: &TokenView, lenient: bool, at: usize, budget: Budget) -> Read<Type>
+    ensures gives { Gives view.now result (read lenient nonterminal.BaseType budget.brackets budget.limit budget.left (drop at view.now)) }
     ensures moves { Moves at result }
-    ensures inside { Inside (length source.now) result }
+    ensures inside { Inside (length view.now) result }
 {
-    if source.is(at, Test::Name) {
-        return named(source, lenient, at, room);
+    if view.is(at, Test::Name) {
+        return named(view, lenient, at, budget);
     }
-    if source.is(at, Test::Is(TokenKind::LeftBracket)) {
-        return array(alloc, source, lenient, at, room);
+    if view.is(at, Test::Is(TokenKind::LeftBracket)) {
+        return array(alloc, view, lenient, at, budget);
     }
-    if source.is(at, Test::Is(TokenKind::Any)) {
-        let (any, next) = source.take(at);
-        let (token, end) = source.expect(next, Test::Name)?;
-        let name = nodes::name(token)?;
-        return Ok((Type::Any(any.span, name), end, room.left));
+    if view.is(at, Test::Is(TokenKind::Any)) {
+        let (any, next) = view.take(at);
+        let (token, end) = view.expect(next, Test::Name)?;
+        let name = builders::name(token)?;
+        return Ok((Type::Any(any.span, name), end, budget.left));
     }
-    void(source, lenient, at, room)
+    void(view, lenient, at, budget)
 }
 
 /// A type's name, or the name of a type in a type.
-fn named(source: &Source, lenient: bool, at: usize, room: Room) -> Reading<Type>
-    requires { (at_first is_name (drop at source.now) ≡ true) × (at < length source.now) }
-    ensures gives { Gives source.now result (read lenient symbol.Base room.brackets room.limit room.left (drop at source.now)) }
+fn named(view: &TokenView, lenient: bool, at: usize, budget: Budget) -> Read<Type>
+    requires { (at_first is_name (drop at view.now) ≡ true) × (at < length view.now) }
+    ensures gives { Gives view.now result (read lenient nonterminal.BaseType budget.brackets budget.limit budget.left (drop at view.now)) }
     ensures moves { Moves at result }
-    ensures inside { Inside (length source.now) result }
+    ensures inside { Inside (length view.now) result }
 {
-    let (token, end) = source.take(at);
-    let outer = nodes::name(token)?;
-    if !source.is(end, Test::Is(TokenKind::Dot)) {
-        return Ok((Type::Name(outer), end, room.left));
+    let (token, end) = view.take(at);
+    let outer = builders::name(token)?;
+    if !view.is(end, Test::Is(TokenKind::Dot)) {
+        return Ok((Type::Name(outer), end, budget.left));
     }
-    let (_, next) = source.take(end);
-    let (inner_token, behind) = source.expect(next, Test::Name)?;
-    let inner = nodes::name(inner_token)?;
-    Ok((Type::Member(outer, inner), behind, room.left))
+    let (_, next) = view.take(end);
+    let (inner_token, after) = view.expect(next, Test::Name)?;
+    let inner = builders::name(inner_token)?;
+    Ok((Type::Member(outer, inner), after, budget.left))
 }
 
 /// An array's type.
 #[cycle(types)]
-fn array(alloc: Global, source: &Source, lenient: bool, at: usize, room: Room) -> Reading<Type>
-    requires { (at_first is_name (drop at source.now) ≡ false) × (at_first (is k.LeftBracket) (drop at source.now) ≡ true) × (at < length source.now) }
-    ensures gives { Gives source.now result (read lenient symbol.Base room.brackets room.limit room.left (drop at source.now)) }
+fn array(alloc: Global, view: &TokenView, lenient: bool, at: usize, budget: Budget) -> Read<Type>
+    requires { (at_first is_name (drop at view.now) ≡ false) × (at_first (is k.LeftBracket) (drop at view.now) ≡ true) × (at < length view.now) }
+    ensures gives { Gives view.now result (read lenient nonterminal.BaseType budget.brackets budget.limit budget.left (drop at view.now)) }
     ensures moves { Moves at result }
-    ensures inside { Inside (length source.now) result }
+    ensures inside { Inside (length view.now) result }
 {
-    if room.brackets == 0 {
-        return Err(Stop::Refused(at, true));
+    if budget.brackets == 0 {
+        return Err(Stop::Refused { at, over: true });
     }
-    if room.left == 0 {
-        return Err(Stop::Refused(at, true));
+    if budget.left == 0 {
+        return Err(Stop::Refused { at, over: true });
     }
-    let (open, next) = source.take(at);
-    let inner = Room {
-        brackets: room.brackets - 1,
-        left: room.left - 1,
-        ..room
+    let (open, next) = view.take(at);
+    let inner = Budget {
+        brackets: budget.brackets - 1,
+        left: budget.left - 1,
+        ..budget
     };
-    let (x, end, left) = type_(alloc, source, lenient, next, inner)?;
-    let (_, behind) = source.expect(end, Test::Is(TokenKind::RightBracket))?;
+    let (x, end, left) = type_(alloc, view, lenient, next, inner)?;
+    let (_, after) = view.expect(end, Test::Is(TokenKind::RightBracket))?;
     let element = Boxed::new(alloc, x)?;
-    Ok((Type::Array(open.span, element), behind, left))
+    Ok((Type::Array(open.span, element), after, left))
 }
 
 /// `()`
-fn void(source: &Source, lenient: bool, at: usize, room: Room) -> Reading<Type>
-    requires { (at_first is_name (drop at source.now) ≡ false) × (at_first (is k.LeftBracket) (drop at source.now) ≡ false) × (at_first (is k.Any) (drop at source.now) ≡ false) }
-    ensures gives { Gives source.now result (read lenient symbol.Base room.brackets room.limit room.left (drop at source.now)) }
+fn void(view: &TokenView, lenient: bool, at: usize, budget: Budget) -> Read<Type>
+    requires { (at_first is_name (drop at view.now) ≡ false) × (at_first (is k.LeftBracket) (drop at view.now) ≡ false) × (at_first (is k.Any) (drop at view.now) ≡ false) }
+    ensures gives { Gives view.now result (read lenient nonterminal.BaseType budget.brackets budget.limit budget.left (drop at view.now)) }
     ensures moves { Moves at result }
-    ensures inside { Inside (length source.now) result }
+    ensures inside { Inside (length view.now) result }
 {
-    if !source.is(at, Test::Is(TokenKind::LeftParen)) {
-        return Err(Stop::Refused(at, false));
+    if !view.is(at, Test::Is(TokenKind::LeftParen)) {
+        return Err(Stop::Refused { at, over: false });
     }
-    if room.brackets == 0 {
-        return Err(Stop::Refused(at, true));
+    if budget.brackets == 0 {
+        return Err(Stop::Refused { at, over: true });
     }
-    let (open, next) = source.take(at);
-    let (_, end) = source.expect(next, Test::Is(TokenKind::RightParen))?;
-    Ok((Type::Void(open.span), end, room.left))
+    let (open, next) = view.take(at);
+    let (_, end) = view.expect(next, Test::Is(TokenKind::RightParen))?;
+    Ok((Type::Void(open.span), end, budget.left))
 }

@@ -5,29 +5,28 @@ ghost use Rattle.sw_grammar.specs.Reading.{at_first};
 ghost use Rattle.sw_lex.specs.declared.token.TokenKind.TheVariants as k;
 ghost use Rattle.sw_syntax.specs.Bodies.{branch_part};
 ghost use Rattle.sw_syntax.specs.Answering.{read};
-ghost use Rattle.sw_syntax.specs.Reading.{Gives, Inside, Moves};
-ghost use Rattle.sw_syntax.specs.Symbols as symbol;
+ghost use Rattle.sw_syntax.specs.ReadResults.{Gives, Inside, Moves};
+ghost use Rattle.sw_syntax.specs.Nonterminals as nonterminal;
 ghost use Rattle.sw_syntax.specs.Tests.{is};
 
-use crate::Reading;
 use crate::bodies::block;
 use crate::parts::conditions;
 use sqlite_items::Items;
 use std::alloc::Global;
 use sw_lex::TokenKind;
-use sw_syntax::{Opening, Room, Source, Stop, Test, stands, trimmed};
+use sw_syntax::{Budget, Opening, Read, Stop, Test, TokenView, stands, trimmed};
 use sw_tree::{Branch, Stmt};
 
 /// `if` with its conditions and its block.
 #[cycle(stmt)]
-fn branch(alloc: Global, source: &Source, lenient: bool, at: usize, room: Room) -> Reading<Branch>
-    ensures gives { Gives source.now result (branch_part lenient room.brackets room.limit room.left (drop at source.now)) }
+fn branch(alloc: Global, view: &TokenView, lenient: bool, at: usize, budget: Budget) -> Read<Branch>
+    ensures gives { Gives view.now result (branch_part lenient budget.brackets budget.limit budget.left (drop at view.now)) }
     ensures moves { Moves at result }
-    ensures inside { Inside (length source.now) result }
+    ensures inside { Inside (length view.now) result }
 {
-    let (token, next) = source.expect(at, Test::Is(TokenKind::If))?;
-    let (conditions, end, left) = conditions(alloc, source, lenient, next, room)?;
-    let (body, behind, left) = block(alloc, source, lenient, end, Room { left, ..room })?;
+    let (token, next) = view.expect(at, Test::Is(TokenKind::If))?;
+    let (conditions, end, left) = conditions(alloc, view, lenient, next, budget)?;
+    let (body, after, left) = block(alloc, view, lenient, end, Budget { left, ..budget })?;
     let span = token.span;
     Ok((
         Branch {
@@ -35,51 +34,54 @@ fn branch(alloc: Global, source: &Source, lenient: bool, at: usize, room: Room) 
             conditions,
             body,
         },
-        behind,
+        after,
         left,
     ))
 }
 
-/// An `if`, each `else if` behind it, and the block of an `else` without `if`.
+/// An `if`, each `else if` after it, and the block of an `else` without `if`.
 #[cycle(stmt)]
 pub fn if_statement(
     alloc: Global,
-    source: &Source,
+    view: &TokenView,
     lenient: bool,
     at: usize,
-    room: Room,
-) -> Reading<Stmt>
-    requires { at_first (is k.If) (drop at source.now) ≡ true }
-    ensures gives { Gives source.now result (read lenient (symbol.Stmt' symbol.Closed) room.brackets room.limit room.left (drop at source.now)) }
+    budget: Budget,
+) -> Read<Stmt>
+    requires { at_first (is k.If) (drop at view.now) ≡ true }
+    ensures gives { Gives view.now result (read lenient (nonterminal.Statement nonterminal.Closed) budget.brackets budget.limit budget.left (drop at view.now)) }
     ensures moves { Moves at result }
-    ensures inside { Inside (length source.now) result }
+    ensures inside { Inside (length view.now) result }
 {
-    let own = Room {
-        left: room.limit,
-        ..room
+    let own = Budget {
+        left: budget.limit,
+        ..budget
     };
-    let (first, mut end, mut left) = branch(alloc, source, lenient, at, own)?;
+    let (first, mut end, mut left) = branch(alloc, view, lenient, at, own)?;
     let mut others = Items::new(alloc);
-    'branches: while stands(source, end, Opening::ElseIf) {
+    'branches: while stands(view, end, Opening::ElseIf) {
         if left == 0 {
-            return Err(Stop::Refused(end, true));
+            return Err(Stop::Refused {
+                at: end,
+                over: true,
+            });
         }
-        let (_, next) = source.take(end);
-        let counted = Room {
+        let (_, next) = view.take(end);
+        let counted = Budget {
             left: left - 1,
-            ..room
+            ..budget
         };
-        let (other, other_end, other_left) = branch(alloc, source, lenient, next, counted)?;
+        let (other, other_end, other_left) = branch(alloc, view, lenient, next, counted)?;
         others.push(other)?;
         end = other_end;
         left = other_left;
     }
-    if !stands(source, end, Opening::Else) {
+    if !stands(view, end, Opening::Else) {
         let kept = trimmed(alloc, others)?;
-        return Ok((Stmt::If(first, kept, None), end, room.left));
+        return Ok((Stmt::If(first, kept, None), end, budget.left));
     }
-    let (_, next) = source.take(end);
-    let (body, behind, _) = block(alloc, source, lenient, next, Room { left, ..room })?;
+    let (_, next) = view.take(end);
+    let (body, after, _) = block(alloc, view, lenient, next, Budget { left, ..budget })?;
     let kept = trimmed(alloc, others)?;
-    Ok((Stmt::If(first, kept, Some(body)), behind, room.left))
+    Ok((Stmt::If(first, kept, Some(body)), after, budget.left))
 }

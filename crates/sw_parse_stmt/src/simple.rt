@@ -5,142 +5,152 @@ ghost use Rattle.sw_grammar.specs.Reading.{at_first};
 ghost use Rattle.sw_lex.specs.declared.token.TokenKind.TheVariants as k;
 ghost use Rattle.sw_syntax.specs.Bodies.{IsJump, assigned_part};
 ghost use Rattle.sw_syntax.specs.Answering.{read};
-ghost use Rattle.sw_syntax.specs.Reading.{Gives, Inside, Moves, Stays};
-ghost use Rattle.sw_syntax.specs.Symbols as symbol;
+ghost use Rattle.sw_syntax.specs.ReadResults.{Gives, Inside, Moves, Stays};
+ghost use Rattle.sw_syntax.specs.Nonterminals as nonterminal;
 ghost use Rattle.sw_syntax.specs.Tests.{is, is_let_or_var, starts_expr};
 
+use crate::builders;
 use crate::parts::annotation;
-use crate::{Reading, nodes};
 use std::alloc::Global;
 use sw_lex::TokenKind;
 use sw_parse_expr::expr;
-use sw_syntax::{Opening, Room, Source, Test, stands};
+use sw_syntax::{Budget, Opening, Read, Test, TokenView, stands};
 use sw_tree::{Expr, Stmt};
 
-/// `let` or `var` at this place, with a name, perhaps a type, and a value.
-fn local(alloc: Global, source: &Source, lenient: bool, at: usize, room: Room) -> Reading<Stmt>
-    requires { (at_first is_let_or_var (drop at source.now) ≡ true) × (at < length source.now) }
-    ensures gives { Gives source.now result (read lenient (symbol.Stmt' symbol.Open) room.brackets room.limit room.left (drop at source.now)) }
+/// `let` or `var` at this position, with a name, perhaps a type, and a value.
+fn local(alloc: Global, view: &TokenView, lenient: bool, at: usize, budget: Budget) -> Read<Stmt>
+    requires { (at_first is_let_or_var (drop at view.now) ≡ true) × (at < length view.now) }
+    ensures gives { Gives view.now result (read lenient (nonterminal.Statement nonterminal.Open) budget.brackets budget.limit budget.left (drop at view.now)) }
     ensures moves { Moves at result }
-    ensures inside { Inside (length source.now) result }
+    ensures inside { Inside (length view.now) result }
 {
-    let (mark, next) = source.take(at);
-    let (name_token, name_end) = source.expect(next, Test::Name)?;
-    let (declared, type_end, left) = annotation(alloc, source, lenient, name_end, room)?;
-    let (_, value_at) = source.expect(type_end, Test::Is(TokenKind::Assign))?;
-    let own = Room {
-        left: room.limit,
-        ..room
+    let (mark, next) = view.take(at);
+    let (name_token, name_end) = view.expect(next, Test::Name)?;
+    let (declared, type_end, left) = annotation(alloc, view, lenient, name_end, budget)?;
+    let (_, value_at) = view.expect(type_end, Test::Is(TokenKind::Assign))?;
+    let own = Budget {
+        left: budget.limit,
+        ..budget
     };
-    let (x, end, _) = expr(alloc, source, lenient, value_at, own)?;
-    let node = nodes::local(mark, name_token, declared, x)?;
+    let (x, end, _) = expr(alloc, view, lenient, value_at, own)?;
+    let node = builders::local(mark, name_token, declared, x)?;
     Ok((node, end, left))
 }
 
-/// What an expression is as a statement: a place where the mark of an assignment stands behind it, with what is
+/// What an expression is as a statement: a target where the mark of an assignment follows it, with what is
 /// assigned.
 fn assigned(
     alloc: Global,
-    source: &Source,
+    view: &TokenView,
     lenient: bool,
     x: Expr,
     at: usize,
-    room: Room,
-) -> Reading<Stmt>
-    requires { at ≤ length source.now }
-    ensures gives { Gives source.now result (assigned_part lenient room.brackets room.limit room.left x (drop at source.now)) }
+    budget: Budget,
+) -> Read<Stmt>
+    requires { at ≤ length view.now }
+    ensures gives { Gives view.now result (assigned_part lenient budget.brackets budget.limit budget.left x (drop at view.now)) }
     ensures stays { Stays at result }
-    ensures inside { Inside (length source.now) result }
+    ensures inside { Inside (length view.now) result }
 {
-    if !nodes::is_place(&x) {
-        return Ok((Stmt::Expr(x), at, room.left));
+    if !builders::is_target(&x) {
+        return Ok((Stmt::Expr(x), at, budget.left));
     }
-    if !stands(source, at, Opening::Assignment) {
-        return Ok((Stmt::Expr(x), at, room.left));
+    if !stands(view, at, Opening::Assignment) {
+        return Ok((Stmt::Expr(x), at, budget.left));
     }
-    let (mark, next) = source.take(at);
-    let own = Room {
-        left: room.limit,
-        ..room
+    let (mark, next) = view.take(at);
+    let own = Budget {
+        left: budget.limit,
+        ..budget
     };
-    let (value, end, _) = expr(alloc, source, lenient, next, own)?;
-    let operator = nodes::assign_operator(mark.kind);
-    Ok((Stmt::Assign(x, operator, mark.span, value), end, room.left))
+    let (value, end, _) = expr(alloc, view, lenient, next, own)?;
+    let operator = builders::assign_operator(mark.kind);
+    Ok((
+        Stmt::Assign(x, operator, mark.span, value),
+        end,
+        budget.left,
+    ))
 }
 
 /// An expression or an assignment.
-fn expression(alloc: Global, source: &Source, lenient: bool, at: usize, room: Room) -> Reading<Stmt>
-    requires { (at_first is_let_or_var (drop at source.now) ≡ false) × (at_first starts_expr (drop at source.now) ≡ true) × (at ≤ length source.now) }
-    ensures gives { Gives source.now result (read lenient (symbol.Stmt' symbol.Open) room.brackets room.limit room.left (drop at source.now)) }
+fn expression(
+    alloc: Global,
+    view: &TokenView,
+    lenient: bool,
+    at: usize,
+    budget: Budget,
+) -> Read<Stmt>
+    requires { (at_first is_let_or_var (drop at view.now) ≡ false) × (at_first starts_expr (drop at view.now) ≡ true) × (at ≤ length view.now) }
+    ensures gives { Gives view.now result (read lenient (nonterminal.Statement nonterminal.Open) budget.brackets budget.limit budget.left (drop at view.now)) }
     ensures moves { Moves at result }
-    ensures inside { Inside (length source.now) result }
+    ensures inside { Inside (length view.now) result }
 {
-    let own = Room {
-        left: room.limit,
-        ..room
+    let own = Budget {
+        left: budget.limit,
+        ..budget
     };
-    let (x, end, _) = expr(alloc, source, lenient, at, own)?;
-    assigned(alloc, source, lenient, x, end, room)
+    let (x, end, _) = expr(alloc, view, lenient, at, own)?;
+    assigned(alloc, view, lenient, x, end, budget)
 }
 
 /// `_ =` and an expression.
-fn discard(alloc: Global, source: &Source, lenient: bool, at: usize, room: Room) -> Reading<Stmt>
-    requires { (at_first is_let_or_var (drop at source.now) ≡ false) × (at_first starts_expr (drop at source.now) ≡ false) × (at_first (is k.Underscore) (drop at source.now) ≡ true) × (at < length source.now) }
-    ensures gives { Gives source.now result (read lenient (symbol.Stmt' symbol.Open) room.brackets room.limit room.left (drop at source.now)) }
+fn discard(alloc: Global, view: &TokenView, lenient: bool, at: usize, budget: Budget) -> Read<Stmt>
+    requires { (at_first is_let_or_var (drop at view.now) ≡ false) × (at_first starts_expr (drop at view.now) ≡ false) × (at_first (is k.Underscore) (drop at view.now) ≡ true) × (at < length view.now) }
+    ensures gives { Gives view.now result (read lenient (nonterminal.Statement nonterminal.Open) budget.brackets budget.limit budget.left (drop at view.now)) }
     ensures moves { Moves at result }
-    ensures inside { Inside (length source.now) result }
+    ensures inside { Inside (length view.now) result }
 {
-    let (token, next) = source.take(at);
-    let (_, value_at) = source.expect(next, Test::Is(TokenKind::Assign))?;
-    let own = Room {
-        left: room.limit,
-        ..room
+    let (token, next) = view.take(at);
+    let (_, value_at) = view.expect(next, Test::Is(TokenKind::Assign))?;
+    let own = Budget {
+        left: budget.limit,
+        ..budget
     };
-    let (x, end, _) = expr(alloc, source, lenient, value_at, own)?;
-    Ok((Stmt::Discard(token.span, x), end, room.left))
+    let (x, end, _) = expr(alloc, view, lenient, value_at, own)?;
+    Ok((Stmt::Discard(token.span, x), end, budget.left))
 }
 
-/// A statement at this place that ends in an expression and is no `return`.
+/// A statement at this position that ends in an expression and is no `return`.
 pub fn open_statement(
     alloc: Global,
-    source: &Source,
+    view: &TokenView,
     lenient: bool,
     at: usize,
-    room: Room,
-) -> Reading<Stmt>
-    ensures gives { Gives source.now result (read lenient (symbol.Stmt' symbol.Open) room.brackets room.limit room.left (drop at source.now)) }
+    budget: Budget,
+) -> Read<Stmt>
+    ensures gives { Gives view.now result (read lenient (nonterminal.Statement nonterminal.Open) budget.brackets budget.limit budget.left (drop at view.now)) }
     ensures moves { Moves at result }
-    ensures inside { Inside (length source.now) result }
+    ensures inside { Inside (length view.now) result }
 {
-    if source.is(at, Test::LetOrVar) {
-        return local(alloc, source, lenient, at, room);
+    if view.is(at, Test::LetOrVar) {
+        return local(alloc, view, lenient, at, budget);
     }
-    if source.is(at, Test::Expr) {
-        return expression(alloc, source, lenient, at, room);
+    if view.is(at, Test::Expr) {
+        return expression(alloc, view, lenient, at, budget);
     }
-    if source.is(at, Test::Is(TokenKind::Underscore)) {
-        return discard(alloc, source, lenient, at, room);
+    if view.is(at, Test::Is(TokenKind::Underscore)) {
+        return discard(alloc, view, lenient, at, budget);
     }
-    let (token, value_at) = source.expect(at, Test::Is(TokenKind::Throw))?;
-    let own = Room {
-        left: room.limit,
-        ..room
+    let (token, value_at) = view.expect(at, Test::Is(TokenKind::Throw))?;
+    let own = Budget {
+        left: budget.limit,
+        ..budget
     };
-    let (x, end, _) = expr(alloc, source, lenient, value_at, own)?;
-    Ok((Stmt::Throw(token.span, x), end, room.left))
+    let (x, end, _) = expr(alloc, view, lenient, value_at, own)?;
+    Ok((Stmt::Throw(token.span, x), end, budget.left))
 }
 
 /// `break` or `continue`.
-pub fn jump(source: &Source, lenient: bool, at: usize, room: Room) -> Reading<Stmt>
-    requires { IsJump (drop at source.now) }
-    ensures gives { Gives source.now result (read lenient (symbol.Stmt' symbol.Closed) room.brackets room.limit room.left (drop at source.now)) }
+pub fn jump(view: &TokenView, lenient: bool, at: usize, budget: Budget) -> Read<Stmt>
+    requires { IsJump (drop at view.now) }
+    ensures gives { Gives view.now result (read lenient (nonterminal.Statement nonterminal.Closed) budget.brackets budget.limit budget.left (drop at view.now)) }
     ensures moves { Moves at result }
-    ensures inside { Inside (length source.now) result }
+    ensures inside { Inside (length view.now) result }
 {
-    if source.is(at, Test::Is(TokenKind::Break)) {
-        let (token, end) = source.take(at);
-        return Ok((Stmt::Break(token.span), end, room.left));
+    if view.is(at, Test::Is(TokenKind::Break)) {
+        let (token, end) = view.take(at);
+        return Ok((Stmt::Break(token.span), end, budget.left));
     }
-    let (token, behind) = source.expect(at, Test::Is(TokenKind::Continue))?;
-    Ok((Stmt::Continue(token.span), behind, room.left))
+    let (token, after) = view.expect(at, Test::Is(TokenKind::Continue))?;
+    Ok((Stmt::Continue(token.span), after, budget.left))
 }

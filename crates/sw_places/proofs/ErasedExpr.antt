@@ -16,7 +16,7 @@ use Rattle.sw_tree.specs.declared.expr.Expr.TheViews.{roll-Expr, out-roll-Expr, 
 use Rattle.sw_tree.specs.declared.expr.Expr.TheOpen.{Expr-F, Literal-F}
 use Rattle.sw_tree.specs.declared.expr.Expr.TheVariants as e
 use Rattle.sw_places.specs.Places.{erase_argument}
-use Rattle.sw_syntax.specs.Values.{is_place, is_place_layer}
+use Rattle.sw_syntax.specs.Values.{is_target, is_target_layer}
 
 -- ---- lists
 
@@ -94,31 +94,31 @@ erased-String text pieces =
 
 -- ---- what ends in a name, a member or an index
 
-rolled : (layer : Expr-F Expr Literal Argument StringPiece) → is_place (roll-Expr layer) ≡ is_place_layer layer
-rolled layer = ap is_place_layer (out-roll-Expr layer)
+rolled : (layer : Expr-F Expr Literal Argument StringPiece) → is_target (roll-Expr layer) ≡ is_target_layer layer
+rolled layer = ap is_target_layer (out-roll-Expr layer)
 
-layer_kept : (layer : Expr-F Expr Literal Argument StringPiece) → is_place (erase_expr (roll-Expr layer)) ≡ is_place_layer layer
-layer_kept (Expr-F.Try form at x) = ap is_place (fold-roll-Expr _ _ _ _ _ _ _ _ (Expr-F.Try form at x) ∙ sym (e.rolls-Try form nowhere (erase_expr x))) ∙ rolled (Expr-F.Try form nowhere (erase_expr x))
-layer_kept (Expr-F.Await at x) = ap is_place (fold-roll-Expr _ _ _ _ _ _ _ _ (Expr-F.Await at x) ∙ sym (e.rolls-Await nowhere (erase_expr x))) ∙ rolled (Expr-F.Await nowhere (erase_expr x))
-layer_kept (Expr-F.Ternary x (y, z)) = ap is_place (fold-roll-Expr _ _ _ _ _ _ _ _ (Expr-F.Ternary x (y, z)) ∙ sym (e.rolls-Ternary (erase_expr x) (erase_expr y, erase_expr z))) ∙ rolled (Expr-F.Ternary (erase_expr x) (erase_expr y, erase_expr z))
-layer_kept (Expr-F.Binary operator at (x, y)) = ap is_place (fold-roll-Expr _ _ _ _ _ _ _ _ (Expr-F.Binary operator at (x, y)) ∙ sym (e.rolls-Binary operator nowhere (erase_expr x, erase_expr y))) ∙ rolled (Expr-F.Binary operator nowhere (erase_expr x, erase_expr y))
-layer_kept (Expr-F.Prefix operator at x) = ap is_place (fold-roll-Expr _ _ _ _ _ _ _ _ (Expr-F.Prefix operator at x) ∙ sym (e.rolls-Prefix operator nowhere (erase_expr x))) ∙ rolled (Expr-F.Prefix operator nowhere (erase_expr x))
-layer_kept (Expr-F.Member x name) = ap is_place (fold-roll-Expr _ _ _ _ _ _ _ _ (Expr-F.Member x name) ∙ sym (e.rolls-Member (erase_expr x) (erase_name name))) ∙ rolled (Expr-F.Member (erase_expr x) (erase_name name))
-layer_kept (Expr-F.Index x (at, y)) = ap is_place (fold-roll-Expr _ _ _ _ _ _ _ _ (Expr-F.Index x (at, y)) ∙ sym (e.rolls-Index (erase_expr x) (nowhere, erase_expr y))) ∙ rolled (Expr-F.Index (erase_expr x) (nowhere, erase_expr y))
-layer_kept (Expr-F.Force x at) = ap is_place (fold-roll-Expr _ _ _ _ _ _ _ _ (Expr-F.Force x at) ∙ sym (e.rolls-Force (erase_expr x) nowhere)) ∙ rolled (Expr-F.Force (erase_expr x) nowhere)
-layer_kept (Expr-F.Nil at) = ap is_place (fold-roll-Expr _ _ _ _ _ _ _ _ (Expr-F.Nil at) ∙ sym (e.rolls-Nil nowhere)) ∙ rolled (Expr-F.Nil nowhere)
-layer_kept (Expr-F.Name name) = ap is_place (fold-roll-Expr _ _ _ _ _ _ _ _ (Expr-F.Name name) ∙ sym (e.rolls-Name (erase_name name))) ∙ rolled (Expr-F.Name (erase_name name))
-layer_kept (Expr-F.SelfValue at) = ap is_place (fold-roll-Expr _ _ _ _ _ _ _ _ (Expr-F.SelfValue at) ∙ sym (e.rolls-SelfValue nowhere)) ∙ rolled (Expr-F.SelfValue nowhere)
-layer_kept (Expr-F.Implicit at name) = ap is_place (fold-roll-Expr _ _ _ _ _ _ _ _ (Expr-F.Implicit at name) ∙ sym (e.rolls-Implicit nowhere (erase_name name))) ∙ rolled (Expr-F.Implicit nowhere (erase_name name))
-layer_kept (Expr-F.Paren at x) = ap is_place (fold-roll-Expr _ _ _ _ _ _ _ _ (Expr-F.Paren at x) ∙ sym (e.rolls-Paren nowhere (erase_expr x))) ∙ rolled (Expr-F.Paren nowhere (erase_expr x))
-layer_kept (Expr-F.Array at xs) = ap is_place (fold-roll-Expr _ _ _ _ _ _ _ _ (Expr-F.Array at xs) ∙ sym (e.rolls-Array nowhere (map erase_expr xs))) ∙ rolled (Expr-F.Array nowhere (map erase_expr xs))
-layer_kept (Expr-F.Call x (at, xs)) = ap is_place (fold-roll-Expr _ _ _ _ _ _ _ _ (Expr-F.Call x (at, xs)) ∙ sym (e.rolls-Call (erase_expr x) (nowhere, _))) ∙ rolled (Expr-F.Call (erase_expr x) (nowhere, _))
-layer_kept (Expr-F.Literal at x) = ap is_place (fold-roll-Expr _ _ _ _ _ _ _ _ (Expr-F.Literal at x) ∙ sym (e.rolls-Literal nowhere _)) ∙ rolled (Expr-F.Literal nowhere _)
-layer_kept (Expr-F.Issue at x) = ap is_place (fold-roll-Expr _ _ _ _ _ _ _ _ (Expr-F.Issue at x) ∙ sym (e.rolls-Issue nowhere (erase_expr x))) ∙ rolled (Expr-F.Issue nowhere (erase_expr x))
-layer_kept (Expr-F.Wait name) = ap is_place (fold-roll-Expr _ _ _ _ _ _ _ _ (Expr-F.Wait name) ∙ sym (e.rolls-Wait (erase_name name))) ∙ rolled (Expr-F.Wait (erase_name name))
+layer_kept : (layer : Expr-F Expr Literal Argument StringPiece) → is_target (erase_expr (roll-Expr layer)) ≡ is_target_layer layer
+layer_kept (Expr-F.Try form at x) = ap is_target (fold-roll-Expr _ _ _ _ _ _ _ _ (Expr-F.Try form at x) ∙ sym (e.rolls-Try form nowhere (erase_expr x))) ∙ rolled (Expr-F.Try form nowhere (erase_expr x))
+layer_kept (Expr-F.Await at x) = ap is_target (fold-roll-Expr _ _ _ _ _ _ _ _ (Expr-F.Await at x) ∙ sym (e.rolls-Await nowhere (erase_expr x))) ∙ rolled (Expr-F.Await nowhere (erase_expr x))
+layer_kept (Expr-F.Ternary x (y, z)) = ap is_target (fold-roll-Expr _ _ _ _ _ _ _ _ (Expr-F.Ternary x (y, z)) ∙ sym (e.rolls-Ternary (erase_expr x) (erase_expr y, erase_expr z))) ∙ rolled (Expr-F.Ternary (erase_expr x) (erase_expr y, erase_expr z))
+layer_kept (Expr-F.Binary operator at (x, y)) = ap is_target (fold-roll-Expr _ _ _ _ _ _ _ _ (Expr-F.Binary operator at (x, y)) ∙ sym (e.rolls-Binary operator nowhere (erase_expr x, erase_expr y))) ∙ rolled (Expr-F.Binary operator nowhere (erase_expr x, erase_expr y))
+layer_kept (Expr-F.Prefix operator at x) = ap is_target (fold-roll-Expr _ _ _ _ _ _ _ _ (Expr-F.Prefix operator at x) ∙ sym (e.rolls-Prefix operator nowhere (erase_expr x))) ∙ rolled (Expr-F.Prefix operator nowhere (erase_expr x))
+layer_kept (Expr-F.Member x name) = ap is_target (fold-roll-Expr _ _ _ _ _ _ _ _ (Expr-F.Member x name) ∙ sym (e.rolls-Member (erase_expr x) (erase_name name))) ∙ rolled (Expr-F.Member (erase_expr x) (erase_name name))
+layer_kept (Expr-F.Index x (at, y)) = ap is_target (fold-roll-Expr _ _ _ _ _ _ _ _ (Expr-F.Index x (at, y)) ∙ sym (e.rolls-Index (erase_expr x) (nowhere, erase_expr y))) ∙ rolled (Expr-F.Index (erase_expr x) (nowhere, erase_expr y))
+layer_kept (Expr-F.Force x at) = ap is_target (fold-roll-Expr _ _ _ _ _ _ _ _ (Expr-F.Force x at) ∙ sym (e.rolls-Force (erase_expr x) nowhere)) ∙ rolled (Expr-F.Force (erase_expr x) nowhere)
+layer_kept (Expr-F.Nil at) = ap is_target (fold-roll-Expr _ _ _ _ _ _ _ _ (Expr-F.Nil at) ∙ sym (e.rolls-Nil nowhere)) ∙ rolled (Expr-F.Nil nowhere)
+layer_kept (Expr-F.Name name) = ap is_target (fold-roll-Expr _ _ _ _ _ _ _ _ (Expr-F.Name name) ∙ sym (e.rolls-Name (erase_name name))) ∙ rolled (Expr-F.Name (erase_name name))
+layer_kept (Expr-F.SelfValue at) = ap is_target (fold-roll-Expr _ _ _ _ _ _ _ _ (Expr-F.SelfValue at) ∙ sym (e.rolls-SelfValue nowhere)) ∙ rolled (Expr-F.SelfValue nowhere)
+layer_kept (Expr-F.Implicit at name) = ap is_target (fold-roll-Expr _ _ _ _ _ _ _ _ (Expr-F.Implicit at name) ∙ sym (e.rolls-Implicit nowhere (erase_name name))) ∙ rolled (Expr-F.Implicit nowhere (erase_name name))
+layer_kept (Expr-F.Paren at x) = ap is_target (fold-roll-Expr _ _ _ _ _ _ _ _ (Expr-F.Paren at x) ∙ sym (e.rolls-Paren nowhere (erase_expr x))) ∙ rolled (Expr-F.Paren nowhere (erase_expr x))
+layer_kept (Expr-F.Array at xs) = ap is_target (fold-roll-Expr _ _ _ _ _ _ _ _ (Expr-F.Array at xs) ∙ sym (e.rolls-Array nowhere (map erase_expr xs))) ∙ rolled (Expr-F.Array nowhere (map erase_expr xs))
+layer_kept (Expr-F.Call x (at, xs)) = ap is_target (fold-roll-Expr _ _ _ _ _ _ _ _ (Expr-F.Call x (at, xs)) ∙ sym (e.rolls-Call (erase_expr x) (nowhere, _))) ∙ rolled (Expr-F.Call (erase_expr x) (nowhere, _))
+layer_kept (Expr-F.Literal at x) = ap is_target (fold-roll-Expr _ _ _ _ _ _ _ _ (Expr-F.Literal at x) ∙ sym (e.rolls-Literal nowhere _)) ∙ rolled (Expr-F.Literal nowhere _)
+layer_kept (Expr-F.Issue at x) = ap is_target (fold-roll-Expr _ _ _ _ _ _ _ _ (Expr-F.Issue at x) ∙ sym (e.rolls-Issue nowhere (erase_expr x))) ∙ rolled (Expr-F.Issue nowhere (erase_expr x))
+layer_kept (Expr-F.Wait name) = ap is_target (fold-roll-Expr _ _ _ _ _ _ _ _ (Expr-F.Wait name) ∙ sym (e.rolls-Wait (erase_name name))) ∙ rolled (Expr-F.Wait (erase_name name))
 
-place_kept : (x : Expr) → is_place (erase_expr x) ≡ is_place x
-place_kept x = ap (λ x. is_place (erase_expr x)) (sym (roll-out-Expr x)) ∙ layer_kept (out-Expr x)
+place_kept : (x : Expr) → is_target (erase_expr x) ≡ is_target x
+place_kept x = ap (λ x. is_target (erase_expr x)) (sym (roll-out-Expr x)) ∙ layer_kept (out-Expr x)
 
-pub is_place_same : (x y : Expr) → erase_expr x ≡ erase_expr y → is_place x ≡ is_place y
-is_place_same x y p = sym (place_kept x) ∙ ap is_place p ∙ place_kept y
+pub is_place_same : (x y : Expr) → erase_expr x ≡ erase_expr y → is_target x ≡ is_target y
+is_place_same x y p = sym (place_kept x) ∙ ap is_target p ∙ place_kept y

@@ -2,7 +2,7 @@
 use Rattle.std.proofs.Common.{◌≡◌, ℕ, zero, suc, Bool, true, false, inl, inr, List, [], ◌∷◌, map, Option, Some, None, refl, sym, ap, ◌∙◌}
 use Rattle.sw_base.specs.declared.ids.Span.{Span}
 use Rattle.sw_lex.specs.declared.token.TokenKind.TheVariants as k
-use Rattle.sw_grammar.specs.Grammar.{mark, maybe, many, counts}
+use Rattle.sw_grammar.specs.Grammar.{terminal, maybe, many, counts}
 use Rattle.sw_grammar.specs.Grammar as g
 use Rattle.sw_grammar.proofs.Near.{LikeOption, LikeList}
 use Rattle.sw_tree.specs.Erased.{option_map, erase_name, erase_expr, erase_type, erase_literal}
@@ -17,9 +17,9 @@ use Rattle.sw_tree.specs.declared.types.«Type».TheVariants as t
 use Rattle.sw_syntax.specs.Tokens.{Face}
 use Rattle.sw_syntax.specs.Tests.{is_joined_question, is_ternary}
 use Rattle.sw_syntax.specs.Values.{or_none, or_some, prefix_of, binary_of, bool_of, pieces_of, integer_of, to_left, to_right, ternary_of, with_forms, awaited, tried, optional_of, named}
-use Rattle.sw_syntax.specs.Symbols.{Type', Base, Expr, Tern, Bin, Prefix, Post, Form, Arg, Prim, Elements}
-use Rattle.sw_syntax.specs.Parts.{P, ◌·◌, tok, name, behind}
-use Rattle.sw_syntax.specs.Grammar.{rule, leftward, literal_with, try_mark}
+use Rattle.sw_syntax.specs.Nonterminals.{TypeExpr, BaseType, Expr, Ternary, Binary, Prefix, Postfix, PostfixForm, Argument, Primary, Elements}
+use Rattle.sw_syntax.specs.Parts.{P, ◌·◌, tok, name, after}
+use Rattle.sw_syntax.specs.Grammar.{production, leftward, literal_with, try_mark}
 use Rattle.sw_places.specs.Places.{Alike, erase_argument}
 use Rattle.sw_places.proofs.ErasedExpr
 use Rattle.sw_places.proofs.ErasedExpr.{erase_piece}
@@ -34,7 +34,7 @@ optional_same [] (g ∷ gs) x y p h = elim p [ ]
 optional_same (f ∷ fs) [] x y p h = elim p [ ]
 optional_same (f ∷ fs) (g ∷ gs) x y p h = optional_same fs gs (t.Optional x) (t.Optional y) p.1 (ErasedStmt.erased-Optional-type x ∙ ap t.Optional h ∙ sym (ErasedStmt.erased-Optional-type y))
 
-pub near_type : Keeps (rule false Type') erase_type
+pub near_type : Keeps (production false TypeExpr) erase_type
 near_type x y ((v, fs), (w, gs), (p, q), ex, ey) = meet erase_type ex ey (optional_same fs gs v w q p)
 
 named_same : (x y : Name) (v w : Option Name) → erase_name x ≡ erase_name y → option_map erase_name v ≡ option_map erase_name w → erase_type (named x v) ≡ erase_type (named y w)
@@ -43,8 +43,8 @@ named_same x y None (Some w) p q = cc
 named_same x y (Some v) None p q = cc
 named_same x y (Some v) (Some w) p q = let a = ErasedStmt.erased-Member-type x v in let b = ErasedStmt.erased-Member-type y w in cc
 
-pub near_base : Keeps (rule false Base) erase_type
-near_base x y (inl ((n, o), (m, r), (p, q), ex, ey)) = meet erase_type ex ey (named_same n m o r (names n m p) (options (behind (tok k.Dot) name) erase_name (behinds (tok k.Dot) name erase_name names) o r q))
+pub near_base : Keeps (production false BaseType) erase_type
+near_base x y (inl ((n, o), (m, r), (p, q), ex, ey)) = meet erase_type ex ey (named_same n m o r (names n m p) (options (after (tok k.Dot) name) erase_name (behinds (tok k.Dot) name erase_name names) o r q))
 near_base x y (inr (inl (v, w, p, ex, ey))) = meet erase_type ex ey (let a = ErasedStmt.erased-Array-type v.0 v.1.0 in let b = ErasedStmt.erased-Array-type w.0 w.1.0 in let q = p.1.0 in cc)
 near_base x y (inr (inr (inl (v, w, p, ex, ey)))) = meet erase_type ex ey (let a = ErasedStmt.erased-Any-type v.0 v.1 in let b = ErasedStmt.erased-Any-type w.0 w.1 in let q = names v.1 w.1 p.1 in cc)
 near_base x y (inr (inr (inr (v, w, p, ex, ey)))) = meet erase_type ex ey (ErasedStmt.erased-Void-type v.0 ∙ sym (ErasedStmt.erased-Void-type w.0))
@@ -80,7 +80,7 @@ tried_same : (v w : Option (Span × Bool)) (x y : ExprTree) → Near (maybe try_
 tried_same None None x y p h = h
 tried_same None (Some w) x y p h = elim p [ ]
 tried_same (Some v) None x y p h = elim p [ ]
-tried_same (Some (at, v)) (Some (at', w)) x y p h = go v w (presents (mark is_joined_question) v w p.1)
+tried_same (Some (at, v)) (Some (at', w)) x y p h = go v w (presents (terminal is_joined_question) v w p.1)
   where
     go : (v w : Bool) → v ≡ w → erase_expr (tried (Some (at, v)) x) ≡ erase_expr (tried (Some (at', w)) y)
     go false false q = let a = ErasedExpr.erased-Try try_form.Plain at x in let b = ErasedExpr.erased-Try try_form.Plain at' y in cc
@@ -88,15 +88,15 @@ tried_same (Some (at, v)) (Some (at', w)) x y p h = go v w (presents (mark is_jo
     go true false q = cc
     go true true q = let a = ErasedExpr.erased-Try try_form.Optional at x in let b = ErasedExpr.erased-Try try_form.Optional at' y in cc
 
-pub near_expr : Keeps (rule false Expr) erase_expr
+pub near_expr : Keeps (production false Expr) erase_expr
 near_expr x y ((v, (o, a)), (w, (r, b)), (p, (q, s)), ex, ey) = meet erase_expr ex ey (tried_same v w (awaited o a) (awaited r b) p (awaited_same _ o r a b q s))
 
 -- the two branches of a ternary
 abbrev erase_both : ExprTree × ExprTree → ExprTree × ExprTree
 erase_both x = (erase_expr x.0, erase_expr x.1)
 
-near_branches : Keeps (g.sym Expr · behind (tok k.Colon) (g.sym Expr)) erase_both
-near_branches x y (p, q) = let r = behinds (tok k.Colon) (g.sym Expr) erase_expr (λ x y p. p) x.1 y.1 q in cc
+near_branches : Keeps (g.nonterminal Expr · after (tok k.Colon) (g.nonterminal Expr)) erase_both
+near_branches x y (p, q) = let r = behinds (tok k.Colon) (g.nonterminal Expr) erase_expr (λ x y p. p) x.1 y.1 q in cc
 
 ternary_same : (x y : ExprTree) (v w : Option (ExprTree × ExprTree)) → erase_expr x ≡ erase_expr y → option_map erase_both v ≡ option_map erase_both w → erase_expr (ternary_of x v) ≡ erase_expr (ternary_of y w)
 ternary_same x y None None p q = p
@@ -109,11 +109,11 @@ ternary_same x y (Some v) (Some w) p q =
     some_first : (a b : ExprTree × ExprTree) → Some a ≡ Some b → a ≡ b
     some_first a b h = cc
 
-pub near_tern : Keeps (rule false Tern) erase_expr
+pub near_tern : Keeps (production false Ternary) erase_expr
 near_tern x y ((v, a), (w, b), (p, q), ex, ey) =
     meet erase_expr ex ey (ternary_same v w a b p
-    (options (behind (counts (mark is_ternary)) (g.sym Expr · behind (tok k.Colon) (g.sym Expr))) erase_both
-    (behinds (counts (mark is_ternary)) (g.sym Expr · behind (tok k.Colon) (g.sym Expr)) erase_both near_branches) a b q))
+    (options (after (counts (terminal is_ternary)) (g.nonterminal Expr · after (tok k.Colon) (g.nonterminal Expr))) erase_both
+    (behinds (counts (terminal is_ternary)) (g.nonterminal Expr · after (tok k.Colon) (g.nonterminal Expr)) erase_both near_branches) a b q))
 
 -- ---- binary marks
 
@@ -143,7 +143,7 @@ right_same (Some v) (Some w) x y p h = binary_same v w x y p h
 near_left : (n : ℕ) → Keeps (leftward false n) erase_expr
 near_left n x y ((v, vs), (w, ws), (p, q), ex, ey) = meet erase_expr ex ey (left_same vs ws v w q p)
 
-pub near_bin : (n : ℕ) → Keeps (rule false (Bin n)) erase_expr
+pub near_bin : (n : ℕ) → Keeps (production false (Binary n)) erase_expr
 near_bin zero x y p = near_left 0 x y p
 near_bin (suc zero) x y p = near_left 1 x y p
 near_bin (suc (suc zero)) x y ((v, vs), (w, ws), (p, q), ex, ey) = meet erase_expr ex ey (right_same vs ws v w q p)
@@ -154,43 +154,43 @@ near_bin (suc (suc (suc (suc (suc (suc n)))))) x y p = p
 
 -- ---- operands
 
-pub near_prefix : Keeps (rule false Prefix) erase_expr
+pub near_prefix : Keeps (production false Prefix) erase_expr
 near_prefix x y (inl (v, w, p, ex, ey)) =
     meet erase_expr ex ey (let a = ErasedExpr.erased-Prefix (prefix_of v.0.kind) v.0.span v.1 in let b = ErasedExpr.erased-Prefix (prefix_of w.0.kind) w.0.span w.1 in
     let c = ap prefix_of p.0.0 in let d = p.1 in cc)
 near_prefix x y (inr p) = p
 
-forms_same : (vs ws : List (ExprTree → ExprTree)) (x y : ExprTree) → LikeList (Alike Form) vs ws → erase_expr x ≡ erase_expr y → erase_expr (with_forms x vs) ≡ erase_expr (with_forms y ws)
+forms_same : (vs ws : List (ExprTree → ExprTree)) (x y : ExprTree) → LikeList (Alike PostfixForm) vs ws → erase_expr x ≡ erase_expr y → erase_expr (with_forms x vs) ≡ erase_expr (with_forms y ws)
 forms_same [] [] x y p h = h
 forms_same [] (w ∷ ws) x y p h = elim p [ ]
 forms_same (v ∷ vs) [] x y p h = elim p [ ]
 forms_same (v ∷ vs) (w ∷ ws) x y (p, q) h = forms_same vs ws (v x) (w y) q (p x y h)
 
-pub near_post : Keeps (rule false Post) erase_expr
+pub near_post : Keeps (production false Postfix) erase_expr
 near_post x y ((v, vs), (w, ws), (p, q), ex, ey) = meet erase_expr ex ey (forms_same vs ws v w q p)
 
-pub near_form : (x y : ExprTree → ExprTree) → Near (rule false Form) x y → Alike Form x y
-near_form x y (inl (v, w, p, ex, ey)) = put (Alike Form) ex ey (λ base other h.
+pub near_form : (x y : ExprTree → ExprTree) → Near (production false PostfixForm) x y → Alike PostfixForm x y
+near_form x y (inl (v, w, p, ex, ey)) = put (Alike PostfixForm) ex ey (λ base other h.
     let a = ErasedExpr.erased-Member base v in let b = ErasedExpr.erased-Member other w in let c = behinds (counts (tok k.Dot)) name erase_name names v w p in cc)
-near_form x y (inr (inl (v, w, p, ex, ey))) = put (Alike Form) ex ey (λ base other h.
-    let a = ErasedExpr.erased-Call base v.0.span v.1.0 in let b = ErasedExpr.erased-Call other w.0.span w.1.0 in let c = anys (g.sym Arg) erase_argument (λ x y p. p) v.1.0 w.1.0 p.1.0 in cc)
-near_form x y (inr (inr (inl (v, w, p, ex, ey)))) = put (Alike Form) ex ey (λ base other h.
+near_form x y (inr (inl (v, w, p, ex, ey))) = put (Alike PostfixForm) ex ey (λ base other h.
+    let a = ErasedExpr.erased-Call base v.0.span v.1.0 in let b = ErasedExpr.erased-Call other w.0.span w.1.0 in let c = anys (g.nonterminal Argument) erase_argument (λ x y p. p) v.1.0 w.1.0 p.1.0 in cc)
+near_form x y (inr (inr (inl (v, w, p, ex, ey)))) = put (Alike PostfixForm) ex ey (λ base other h.
     let a = ErasedExpr.erased-Index base v.0.span v.1.0 in let b = ErasedExpr.erased-Index other w.0.span w.1.0 in let c = p.1.0 in cc)
-near_form x y (inr (inr (inr (f, g, p, ex, ey)))) = put (Alike Form) ex ey (λ base other h.
+near_form x y (inr (inr (inr (f, g, p, ex, ey)))) = put (Alike PostfixForm) ex ey (λ base other h.
     let a = ErasedExpr.erased-Force base f.span in let b = ErasedExpr.erased-Force other g.span in cc)
 
-pub near_arg : Keeps (rule false Arg) erase_argument
-near_arg x y (inl (v, w, p, ex, ey)) = meet erase_argument ex ey (let a = behinds (tok k.Colon) (g.sym Expr) erase_expr (λ x y p. p) v.1 w.1 p.1 in let b = p.0.1 in cc)
+pub near_arg : Keeps (production false Argument) erase_argument
+near_arg x y (inl (v, w, p, ex, ey)) = meet erase_argument ex ey (let a = behinds (tok k.Colon) (g.nonterminal Expr) erase_expr (λ x y p. p) v.1 w.1 p.1 in let b = p.0.1 in cc)
 near_arg x y (inr (v, w, p, ex, ey)) = meet erase_argument ex ey (let h : erase_expr v ≡ erase_expr w = p in cc)
 
-none_same : (v w : Option (List ExprTree)) → Near (maybe (g.sym Elements)) v w → map erase_expr (or_none v) ≡ map erase_expr (or_none w)
+none_same : (v w : Option (List ExprTree)) → Near (maybe (g.nonterminal Elements)) v w → map erase_expr (or_none v) ≡ map erase_expr (or_none w)
 none_same None None p = refl
 none_same None (Some w) p = elim p [ ]
 none_same (Some v) None p = elim p [ ]
 none_same (Some v) (Some w) p = p
 
-pub near_prim : Keeps (rule false Prim) erase_expr
-near_prim x y (inl (v, w, p, ex, ey)) = meet erase_expr ex ey (let a = ErasedExpr.erased-Literal v.0 v.1 in let b = ErasedExpr.erased-Literal w.0 w.1 in let c = near_literal (g.sym Expr) (λ x y p. p) v w p in cc)
+pub near_prim : Keeps (production false Primary) erase_expr
+near_prim x y (inl (v, w, p, ex, ey)) = meet erase_expr ex ey (let a = ErasedExpr.erased-Literal v.0 v.1 in let b = ErasedExpr.erased-Literal w.0 w.1 in let c = near_literal (g.nonterminal Expr) (λ x y p. p) v w p in cc)
 near_prim x y (inr (inl (v, w, p, ex, ey))) = meet erase_expr ex ey (ErasedExpr.erased-Nil v ∙ sym (ErasedExpr.erased-Nil w))
 near_prim x y (inr (inr (inl (v, w, p, ex, ey)))) = meet erase_expr ex ey (let a = ErasedExpr.erased-Name v in let b = ErasedExpr.erased-Name w in let c = names v w p in cc)
 near_prim x y (inr (inr (inr (inl (v, w, p, ex, ey))))) = meet erase_expr ex ey (ErasedExpr.erased-SelfValue v ∙ sym (ErasedExpr.erased-SelfValue w))
@@ -199,11 +199,11 @@ near_prim x y (inr (inr (inr (inr (inr (inl (v, w, p, ex, ey))))))) = meet erase
 near_prim x y (inr (inr (inr (inr (inr (inr (v, w, p, ex, ey))))))) =
     meet erase_expr ex ey (let a = ErasedExpr.erased-Array v.0 (or_none v.1.0) in let b = ErasedExpr.erased-Array w.0 (or_none w.1.0) in let c = none_same v.1.0 w.1.0 p.1.0 in cc)
 
-pub near_elements : Keeps (rule false Elements) (map erase_expr)
+pub near_elements : Keeps (production false Elements) (map erase_expr)
 near_elements x y ((v, vs), (w, ws), (p, q), ex, ey) = meet (map erase_expr) ex ey (let c = none_same (or_some vs) (or_some ws) (more vs ws q) in cc)
   where
-    more : (vs ws : Option (Option (List ExprTree))) → Near (maybe (behind (tok k.Comma) (maybe (g.sym Elements)))) vs ws → Near (maybe (g.sym Elements)) (or_some vs) (or_some ws)
+    more : (vs ws : Option (Option (List ExprTree))) → Near (maybe (after (tok k.Comma) (maybe (g.nonterminal Elements)))) vs ws → Near (maybe (g.nonterminal Elements)) (or_some vs) (or_some ws)
     more None None q = tt
     more None (Some w) q = elim q [ ]
     more (Some v) None q = elim q [ ]
-    more (Some v) (Some w) (a, b, p, ex, ey) = put (λ v w. Near (maybe (g.sym Elements)) v w) ex ey p.1
+    more (Some v) (Some w) (a, b, p, ex, ey) = put (λ v w. Near (maybe (g.nonterminal Elements)) v w) ex ey p.1

@@ -7,9 +7,9 @@ use Rattle.sw_tree.specs.Erased.{option_map, erase_name}
 use Rattle.sw_syntax.specs.declared.class.Sight.{Sight}
 use Rattle.sw_syntax.specs.Tokens.{Face}
 use Rattle.sw_syntax.specs.Values.{is_some, or_none}
-use Rattle.sw_syntax.specs.Symbols.{Symbol, Sort}
-use Rattle.sw_syntax.specs.Parts.{P, tok, name, present, behind, some, any, in_parens, in_braces}
-use Rattle.sw_syntax.specs.Grammar.{rule}
+use Rattle.sw_syntax.specs.Nonterminals.{Nonterminal, Sort}
+use Rattle.sw_syntax.specs.Parts.{P, tok, name, present, after, some, any, in_parens, in_braces}
+use Rattle.sw_syntax.specs.Grammar.{production}
 use Rattle.sw_places.specs.Places.{unplaced, Alike}
 
 abbrev pub NearFace : Face → Face → Type 0
@@ -17,7 +17,7 @@ NearFace f g = (f.kind ≡ g.kind) × (f.text ≡ g.text)
 
 -- made in the same way of faces and trees that are alike
 abbrev pub Near : {A : Type 0} → P A → A → A → Type 0
-Near a x y = Like Sight Face Symbol Sort (rule false) unplaced NearFace Alike a x y
+Near a x y = Like Sight Face Nonterminal Sort (production false) unplaced NearFace Alike a x y
 
 -- the images of near values under h are equal
 abbrev pub Keeps : {A B : Type 0} → P A → (A → B) → Type 0
@@ -53,14 +53,14 @@ some_same L (Some x) (Some y) p = refl
 pub presents : {A : Type 0} (a : P A) (x y : Bool) → Near (present a) x y → x ≡ y
 presents a x y (v, w, p, ex, ey) = ex ∙ some_same (Near a) v w p ∙ sym ey
 
--- what stands behind a mark, or in brackets, is near
-pub behind_near : {A B : Type 0} (a : P A) (b : P B) (x y : B) → Near (behind a b) x y → Near b x y
+-- what follows a mark, or in brackets, is near
+pub behind_near : {A B : Type 0} (a : P A) (b : P B) (x y : B) → Near (after a b) x y → Near b x y
 behind_near a b x y (v, w, p, ex, ey) = put (Near b) ex ey p.1
 
 pub braces_near : {A : Type 0} (a : P A) (x y : A) → Near (in_braces a) x y → Near a x y
 braces_near a x y (v, w, p, ex, ey) = put (Near a) ex ey p.1.0
 
-pub behinds : {A B C : Type 0} (a : P A) (b : P B) (h : B → C) → Keeps b h → Keeps (behind a b) h
+pub behinds : {A B C : Type 0} (a : P A) (b : P B) (h : B → C) → Keeps b h → Keeps (after a b) h
 behinds a b h keeps x y p = keeps x y (behind_near a b x y p)
 
 pub or_none_lists : {A B : Type 0} (a : P (List A)) (h : A → B) → Keeps a (map h) → Keeps (gives or_none (maybe a)) (map h)
@@ -71,7 +71,7 @@ or_none_lists a h keeps x y (Some v, Some w, p, ex, ey) = meet (map h) ex ey (ke
 
 pub somes : {A B : Type 0} (a : P A) (h : A → B) → Keeps a h → Keeps (some a) (map h)
 somes a h keeps x y ((v, vs), (w, ws), (p, q), ex, ey) =
-    meet (map h) ex ey (let e = keeps v w p in let f = lists (behind (tok k.Comma) a) h (behinds (tok k.Comma) a h keeps) vs ws q in cc)
+    meet (map h) ex ey (let e = keeps v w p in let f = lists (after (tok k.Comma) a) h (behinds (tok k.Comma) a h keeps) vs ws q in cc)
 
 pub anys : {A B : Type 0} (a : P A) (h : A → B) → Keeps a h → Keeps (any a) (map h)
 anys a h keeps = or_none_lists (some a) h (somes a h keeps)

@@ -24,7 +24,7 @@ use Rattle.sw_tree.specs.declared.types.«Type».TheOpen.{Type-F}
 use Rattle.sw_tree.specs.declared.types.«Type».TheVariants as t
 use Rattle.sw_print.proofs.TypeShape.{question_end}
 use Rattle.sw_print.specs.Expressions.{W, word, name_word, dot_name, listed, mark_gap, type_words, try_words, mark_of, signed, bool_word, string_words, expr_level, literal_level, argument_level, piece_level, expr_words, literal_words, argument_words}
-use Rattle.sw_print.proofs.Rows.{row_append}
+use Rattle.sw_print.proofs.TextLemmas.{text_append}
 
 pub at : {f g : W} → f ≡ g → (before : Gap) → f before ≡ g before
 at h before = ap (λ f. f before) h
@@ -39,7 +39,7 @@ argument_fold = fold-Argument W W W (W × Text) expr_level literal_level argumen
 piece_fold : StringPiece → W × Text
 piece_fold = fold-StringPiece W W W (W × Text) expr_level literal_level argument_level piece_level
 
--- the words of an expression in a string, and the text behind it
+-- the words of an expression in a string, and the text after it
 abbrev pub piece_pair : StringPiece → W × Text
 piece_pair piece = (expr_words piece.value, piece.text)
 
@@ -71,7 +71,7 @@ of_type_void span g = at (ap type_words (sym (t.rolls-Void span)) ∙ fold-roll-
 pub of_type_optional : (x : TypeTree) (g : Gap) → type_words (t.Optional x) g ≡ type_words x g ++ plain k.Question (mark_gap (type_words x g)) ∷ []
 of_type_optional x g = at (ap type_words (sym (t.rolls-Optional x)) ∙ fold-roll-Type W _ (Type-F.Optional x)) g
 
--- what stands before the `?` behind it
+-- what stands before the `?` after it
 
 abbrev gap_if : Bool → Gap
 gap_if b = if b then gap.Space else gap.Joined
@@ -97,7 +97,7 @@ gap_of_optional x g = ap mark_gap (of_type_optional x g) ∙ ap gap_if (question
 pub ruleset gap_rules = (gap_of_name, gap_of_member, gap_of_array, gap_of_any, gap_of_void, gap_of_optional)
 
 -- for the function that writes types
-pub ruleset type_rules = (append_assoc, row_append, of_type_name, of_type_member, of_type_array, of_type_any, of_type_void, of_type_optional)
+pub ruleset type_rules = (append_assoc, text_append, of_type_name, of_type_member, of_type_array, of_type_any, of_type_void, of_type_optional)
 
 -- ---- expressions
 
@@ -178,6 +178,6 @@ of_string text pieces g =
     ∙ ap (λ ys. string_words text ys g) (map_alike piece_fold piece_pair piece_same pieces)
 
 -- for the functions that write expressions, and literals
-pub ruleset expr_rules = (append_assoc, row_append, of_try, of_await, of_ternary, of_binary, of_prefix, of_member, of_call, of_index, of_force, of_literal, of_nil, of_name, of_self, of_implicit, of_paren, of_array, of_issue, of_wait)
+pub ruleset expr_rules = (append_assoc, text_append, of_try, of_await, of_ternary, of_binary, of_prefix, of_member, of_call, of_index, of_force, of_literal, of_nil, of_name, of_self, of_implicit, of_paren, of_array, of_issue, of_wait)
 
-pub ruleset literal_rules = (append_assoc, row_append, of_integer, of_bool)
+pub ruleset literal_rules = (append_assoc, text_append, of_integer, of_bool)

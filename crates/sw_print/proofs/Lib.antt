@@ -4,7 +4,7 @@ mod ExprShape
 mod StmtShape
 mod DeclShape
 pub mod Spelling
-mod Rows
+mod TextLemmas
 mod Labels
 mod Lists
 mod ExprWords

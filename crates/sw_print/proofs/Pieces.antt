@@ -5,15 +5,15 @@ use Rattle.sw_lex.specs.Bytes.{Text}
 use Rattle.sw_lex.specs.declared.token.TokenKind.TheVariants as k
 use Rattle.sw_layout.specs.declared.gap.Gap.{Gap}
 use Rattle.sw_layout.specs.declared.gap.Gap.TheVariants as gap
-use Rattle.sw_layout.specs.Words.{Word, row_text}
+use Rattle.sw_layout.specs.Words.{Word, words_text}
 use Rattle.sw_tree.specs.declared.expr.Literal.TheVariants as l
 use Rattle.sw_tree.specs.declared.expr.StringPiece.{StringPiece}
 use Rattle.sw_print.specs.Expressions.{word, pieces_words, string_words, expr_words, literal_words}
 use Rattle.sw_print.proofs.ExprWords.{piece_pair, of_string}
 use Rattle.sw_print.proofs.Lists.{joined}
-use Rattle.sw_print.proofs.Rows.{row_append}
+use Rattle.sw_print.proofs.TextLemmas.{text_append}
 
--- a piece with another one behind it
+-- a piece with another one after it
 abbrev pub middle : StringPiece → List Word
 middle piece = expr_words piece.value gap.Joined ++ word k.StringMiddle piece.text gap.Joined ∷ []
 
@@ -38,8 +38,8 @@ string_cut text (first ∷ pieces) last g = ap (λ l. word k.StringStart text g 
 
 -- a string in which no expression stands
 pub string_whole : (text : Text) (pieces : List StringPiece) (g : Gap) (start : Text) → length pieces < 1
-    → start ++ row_text (word k.StringWhole text g ∷ []) ≡ start ++ row_text (literal_words (l.String text pieces) g)
-string_whole text [] g start h = ap (λ l. start ++ row_text l) (sym (of_string text [] g))
+    → start ++ words_text (word k.StringWhole text g ∷ []) ≡ start ++ words_text (literal_words (l.String text pieces) g)
+string_whole text [] g start h = ap (λ l. start ++ words_text l) (sym (of_string text [] g))
 string_whole text (first ∷ pieces) g start h = absurd (omega arith)
 
 all_but_one : (pieces : List StringPiece) (last : StringPiece) → 1 ≤ length pieces → last ≡ get_or pieces (length pieces - 1) last
@@ -54,20 +54,20 @@ all_but_one pieces last h e =
 texts : (start a b c d : Text) → (((start ++ a) ++ b) ++ c) ++ d ≡ start ++ (a ++ (b ++ (c ++ d)))
 texts start a b c d = simp append_assoc
 
--- a string that is written from its front to its last piece
+-- a string that is written from its first piece to its last
 pub string_pieces : (text : Text) (pieces : List StringPiece) (last : StringPiece) (i : ℕ) (g : Gap) (start begun mid near : Text) → 1 ≤ length pieces → last ≡ get_or pieces (length pieces - 1) last
-    → begun ≡ start ++ row_text (word k.StringStart text g ∷ [])
-    → mid ≡ begun ++ row_text (joined middle (take i (take (length pieces - 1) pieces))) → length (take (length pieces - 1) pieces) ≤ i
-    → near ≡ mid ++ row_text (expr_words last.value gap.Joined)
-    → near ++ row_text (word k.StringLast last.text gap.Joined ∷ []) ≡ start ++ row_text (literal_words (l.String text pieces) g)
+    → begun ≡ start ++ words_text (word k.StringStart text g ∷ [])
+    → mid ≡ begun ++ words_text (joined middle (take i (take (length pieces - 1) pieces))) → length (take (length pieces - 1) pieces) ≤ i
+    → near ≡ mid ++ words_text (expr_words last.value gap.Joined)
+    → near ++ words_text (word k.StringLast last.text gap.Joined ∷ []) ≡ start ++ words_text (literal_words (l.String text pieces) g)
 string_pieces text pieces last i g start begun mid near h e p q l r =
     let front : List StringPiece = take (length pieces - 1) pieces in
-    let a : Text = row_text (word k.StringStart text g ∷ []) in
+    let a : Text = words_text (word k.StringStart text g ∷ []) in
     let x : List Word = expr_words last.value gap.Joined in
     let d : List Word = word k.StringLast last.text gap.Joined ∷ [] in
-    ap (λ t. t ++ row_text d) (r ∙ ap (λ t. t ++ row_text x) (q ∙ ap (λ t. t ++ row_text (joined middle (take i front))) p ∙ ap (λ t. (start ++ a) ++ row_text (joined middle t)) (take_all i front l)))
-    ∙ texts start a (row_text (joined middle front)) (row_text x) (row_text d)
-    ∙ ap (λ t. start ++ (a ++ (row_text (joined middle front) ++ t))) (sym (row_append x d))
-    ∙ ap (λ t. start ++ (a ++ t)) (sym (row_append (joined middle front) (final last)))
-    ∙ ap (λ t. start ++ t) (sym (row_append (word k.StringStart text g ∷ []) (joined middle front ++ final last)))
-    ∙ ap (λ t. start ++ row_text t) (sym (string_cut text front last g) ∙ ap (λ ps. string_words text (map piece_pair ps) g) (sym (all_but_one pieces last h e)) ∙ sym (of_string text pieces g))
+    ap (λ t. t ++ words_text d) (r ∙ ap (λ t. t ++ words_text x) (q ∙ ap (λ t. t ++ words_text (joined middle (take i front))) p ∙ ap (λ t. (start ++ a) ++ words_text (joined middle t)) (take_all i front l)))
+    ∙ texts start a (words_text (joined middle front)) (words_text x) (words_text d)
+    ∙ ap (λ t. start ++ (a ++ (words_text (joined middle front) ++ t))) (sym (text_append x d))
+    ∙ ap (λ t. start ++ (a ++ t)) (sym (text_append (joined middle front) (final last)))
+    ∙ ap (λ t. start ++ t) (sym (text_append (word k.StringStart text g ∷ []) (joined middle front ++ final last)))
+    ∙ ap (λ t. start ++ words_text t) (sym (string_cut text front last g) ∙ ap (λ ps. string_words text (map piece_pair ps) g) (sym (all_but_one pieces last h e)) ∙ sym (of_string text pieces g))

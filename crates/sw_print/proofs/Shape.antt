@@ -1,4 +1,4 @@
--- The shape of a row: its words stand apart, and the brackets within strings match. How it is made of parts.
+-- The shape of a layout: its words stand apart, and the brackets within strings match. How it is made of parts.
 use Rattle.std.proofs.Common.{◌≡◌, ◌≢◌, suc, Bool, true, false, cond, List, [], ◌∷◌, ◌++◌, drop, length, Option, Some, None, refl, ap, sym, subst, arith, append_assoc}
 use mathlib.Core.Logic.{inl, inr}
 use Rattle.sw_lex.specs.declared.token.TokenKind.{TokenKind}
@@ -8,10 +8,10 @@ use Rattle.sw_lex.specs.Cut.{Opens, is_inside, closes, after_kind}
 use Rattle.sw_layout.specs.declared.gap.Gap.{Gap}
 use Rattle.sw_layout.specs.declared.gap.Gap.TheVariants as gap
 use Rattle.sw_layout.specs.Words.{Word, plain, fixed}
-use Rattle.sw_layout.specs.Rows.{Fits, StandsApart, StandsWithin, Stand, may_touch, is_resumed}
+use Rattle.sw_layout.specs.Layouts.{Fits, StandsApart, StandsWithin, Stand, may_touch, is_resumed}
 use Rattle.sw_print.specs.Expressions.{W, word, around, others, listed}
 
--- a row of words without what each of them is
+-- a list of words without what each of them is
 abbrev pub Shape : Opens → Option TokenKind → List Word → Type 0
 Shape o l [] = o ≡ []
 Shape o l (w ∷ ws) = StandsApart l w × StandsWithin o w × Shape (after_kind o w.kind) (Some w.kind) ws
@@ -20,9 +20,9 @@ abbrev pub AllFit : List Word → Type 0
 AllFit [] = Unit {0}
 AllFit (w ∷ ws) = Fits w.kind w.text × AllFit ws
 
-pub row_of : (o : Opens) (l : Option TokenKind) (ws : List Word) → AllFit ws → Shape o l ws → Stand o l ws
-row_of o l [] f s = s
-row_of o l (w ∷ ws) f s = (f.0, s.0, s.1, row_of (after_kind o w.kind) (Some w.kind) ws f.1 s.2)
+pub laid_out : (o : Opens) (l : Option TokenKind) (ws : List Word) → AllFit ws → Shape o l ws → Stand o l ws
+laid_out o l [] f s = s
+laid_out o l (w ∷ ws) f s = (f.0, s.0, s.1, laid_out (after_kind o w.kind) (Some w.kind) ws f.1 s.2)
 
 -- ---- what may stand next
 
@@ -107,9 +107,9 @@ pub touch_form : (first : TokenKind) → (may_touch first k.LeftParen ≡ true) 
 touch_form k.Dot = (refl, refl, refl, refl, refl)
 touch_form first = (refl, refl, refl, refl, refl)
 
--- ---- parts of rows
+-- ---- parts of layouts
 
--- words with these brackets open and this kind before them, whatever stands behind them
+-- words with these brackets open and this kind before them, whatever follows them
 abbrev pub Held : W → Type 0
 Held w = (g : Gap) (o : Opens) (l : Option TokenKind) (rest : List Word) → Lead g o l → ((e : TokenKind) → Ends e → Shape o (Some e) rest) → Shape o l (w g ++ rest)
 
@@ -139,7 +139,7 @@ pub begin : (kind : TokenKind) (text : Text) (g : Gap) (o : Opens) (l : Option T
 begin kind text g o l rest s f lead h =
     (apart g o l kind text f lead, within o (word kind text g) (no_line g o l lead) s, subst (λ o. Shape o (Some kind) rest) (sym (simple_after o kind s)) h)
 
--- the same behind another word, a space before it
+-- the same after another word, a space before it
 pub next : (kind : TokenKind) (text : Text) (o : Opens) (i : TokenKind) (rest : List Word) → is_simple kind ≡ true → Shape o (Some kind) rest → Shape o (Some i) (word kind text gap.Space ∷ rest)
 next kind text o i rest s h =
     (inr (inl refl), within o (word kind text gap.Space) (λ a e. absurd (cc)) s, subst (λ o. Shape o (Some kind) rest) (sym (simple_after o kind s)) h)
@@ -164,7 +164,7 @@ dot text gap.Joined o l rest lead h = begin k.Dot text gap.Joined o l rest refl 
 
 -- ---- brackets
 
--- what is open behind a `(`
+-- what is open after a `(`
 abbrev pub opened : Opens → Opens
 opened o = after_kind o k.LeftParen
 
@@ -179,11 +179,11 @@ closing (bracket ∷ o) = go (is_inside (bracket ∷ o)) refl
         inside : is_inside (bracket ∷ o) ≡ false → ⊥
         inside e = let some : length (bracket ∷ o) ≡ suc (length o) = omega arith in grind (arith)
 
--- `)` behind what stands in the bracket
+-- `)` after what stands in the bracket
 pub close : (o : Opens) (i : TokenKind) (rest : List Word) → Shape o (Some k.RightParen) rest → Shape (opened o) (Some i) (plain k.RightParen gap.Space ∷ rest)
 close o i rest h = (inr (inl refl), ((λ a e. absurd (cc)), (λ r. absurd (cc)), λ e. (closing o).0), subst (λ o. Shape o (Some k.RightParen) rest) (sym (closing o).1) h)
 
--- ---- rows made of rows
+-- ---- layouts made of layouts
 
 pub space : (w : W) → Held w → Laid (w gap.Space)
 space w h o i rest e more = h gap.Space o (Some i) rest (i, refl, e) more
@@ -234,7 +234,7 @@ going_on w v h h' g o l rest lead more = subst (Shape o l) (sym (append_assoc (w
 pub member : (text name : Text) → Held (λ g. word k.Dot text (around g) ∷ word k.Name name gap.Joined ∷ [])
 member text name g o l rest lead more = dot text g o l (word k.Name name gap.Joined ∷ rest) lead (joined k.Name name o k.Dot rest refl refl (more k.Name refl))
 
--- the same behind an expression or a name
+-- the same after an expression or a name
 pub member_laid : (text name : Text) → Laid (word k.Dot text gap.Joined ∷ word k.Name name gap.Joined ∷ [])
 member_laid text name o i rest e more = joined k.Dot text o i (word k.Name name gap.Joined ∷ rest) refl (touch_dot i e) (joined k.Name name o k.Dot rest refl refl (more k.Name refl))
 

@@ -4,7 +4,7 @@ use Rattle.sw_base.specs.declared.ids.Span.{Span}
 use Rattle.sw_lex.specs.declared.token.TokenKind.TheVariants as k
 use Rattle.sw_layout.specs.declared.gap.Gap.{Gap}
 use Rattle.sw_layout.specs.declared.gap.Gap.TheVariants as gap
-use Rattle.sw_layout.specs.Words.{Word, plain, row_text}
+use Rattle.sw_layout.specs.Words.{Word, plain, words_text}
 use Rattle.sw_tree.specs.declared.expr.Name.{Name}
 use Rattle.sw_tree.specs.declared.expr.Binding.{Binding}
 use Rattle.sw_tree.specs.declared.expr.Expr.{Expr}
@@ -21,7 +21,7 @@ use Rattle.sw_tree.specs.declared.stmt.Stmt.TheOpen.{Stmt-F}
 use Rattle.sw_tree.specs.declared.stmt.Stmt.TheVariants as s
 use Rattle.sw_print.specs.Expressions.{W, name_word, perhaps, expr_words}
 use Rattle.sw_print.specs.Statements.{binding_word, assign_mark, annotation_words, initial_words, conditions_words, loop_word, range_words, each_line, in_braces, else_ifs, else_words, catches_words, stmt_level, branch_level, catch_level, arm_level, stmt_words, block_words, branch_words, catch_words, arm_words}
-use Rattle.sw_print.proofs.Rows.{row_append}
+use Rattle.sw_print.proofs.TextLemmas.{text_append}
 use Rattle.sw_print.proofs.ExprWords.{at, map_alike}
 
 branch_fold : Branch → W
@@ -107,16 +107,16 @@ of_continue span g = at (ap stmt_words (sym (s.rolls-Continue span)) ∙ fold-ro
 
 -- An `if` whose first branch and whose other branches are written.
 pub if_rest : (x : Stmt) (first : Branch) (others branches : List Branch) (otherwise : Option (List Stmt)) (g : Gap) (start mid near : List ℕ) → x ≡ s.If first others otherwise → branches ≡ others
-    → mid ≡ start ++ row_text (branch_words first g) → near ≡ mid ++ row_text (else_ifs (map branch_words branches))
-    → near ++ row_text (perhaps (λ body. plain k.Else gap.Space ∷ block_words body) otherwise) ≡ start ++ row_text (stmt_words x g)
+    → mid ≡ start ++ words_text (branch_words first g) → near ≡ mid ++ words_text (else_ifs (map branch_words branches))
+    → near ++ words_text (perhaps (λ body. plain k.Else gap.Space ∷ block_words body) otherwise) ≡ start ++ words_text (stmt_words x g)
 if_rest x first others branches otherwise g start mid near is same p q =
-    let b : List ℕ = row_text (branch_words first g) in
+    let b : List ℕ = words_text (branch_words first g) in
     let c : List Word = else_ifs (map branch_words others) in
     let d : List Word = perhaps (λ body. plain k.Else gap.Space ∷ block_words body) otherwise in
-    ap (λ t. t ++ row_text d) (q ∙ ap (λ t. t ++ row_text (else_ifs (map branch_words branches))) p ∙ ap (λ bs. (start ++ b) ++ row_text (else_ifs (map branch_words bs))) same)
-    ∙ append_assoc (start ++ b) (row_text c) (row_text d) ∙ append_assoc start b (row_text c ++ row_text d)
-    ∙ ap (λ t. start ++ (b ++ t)) (sym (row_append c d)) ∙ ap (λ t. start ++ t) (sym (row_append (branch_words first g) (c ++ d)))
-    ∙ ap (λ ws. start ++ row_text ws) (sym (of_if first others otherwise g)) ∙ ap (λ x. start ++ row_text (stmt_words x g)) (sym is)
+    ap (λ t. t ++ words_text d) (q ∙ ap (λ t. t ++ words_text (else_ifs (map branch_words branches))) p ∙ ap (λ bs. (start ++ b) ++ words_text (else_ifs (map branch_words bs))) same)
+    ∙ append_assoc (start ++ b) (words_text c) (words_text d) ∙ append_assoc start b (words_text c ++ words_text d)
+    ∙ ap (λ t. start ++ (b ++ t)) (sym (text_append c d)) ∙ ap (λ t. start ++ t) (sym (text_append (branch_words first g) (c ++ d)))
+    ∙ ap (λ ws. start ++ words_text ws) (sym (of_if first others otherwise g)) ∙ ap (λ x. start ++ words_text (stmt_words x g)) (sym is)
 
 -- for the functions that write statements
-pub ruleset stmt_rules = (append_assoc, row_append, of_local, of_assign, of_discard, of_expr, of_if, of_guard, of_while, of_for, of_switch, of_do, of_return, of_throw, of_break, of_continue)
+pub ruleset stmt_rules = (append_assoc, text_append, of_local, of_assign, of_discard, of_expr, of_if, of_guard, of_while, of_for, of_switch, of_do, of_return, of_throw, of_break, of_continue)

@@ -6,7 +6,7 @@ use Rattle.sw_lex.specs.Cut.{Opens}
 use Rattle.sw_layout.specs.declared.gap.Gap.{Gap}
 use Rattle.sw_layout.specs.declared.gap.Gap.TheVariants as gap
 use Rattle.sw_layout.specs.Words.{Word, plain, fixed}
-use Rattle.sw_layout.specs.Rows.{may_touch}
+use Rattle.sw_layout.specs.Layouts.{may_touch}
 use Rattle.sw_tree.specs.declared.types.«Type».{«Type» as TypeTree, map-Type, roll-Type}
 use Rattle.sw_tree.specs.declared.types.«Type».TheOpen.{Type-F}
 use Rattle.sw_tree.specs.declared.types.«Type».TheFolds.{ind-Type, fold-roll-Type}
@@ -29,7 +29,7 @@ question_touches k.Question h = absurd (cc)
 question_touches k.Dot h = refl
 question_touches first h = refl
 
--- from a row whose last word is known
+-- from a layout whose last word is known
 ended : (w : W) (v : Gap → List Word) (last : Word) → ((g : Gap) → w g ≡ v g ++ last ∷ []) → Ends last.kind → ((g : Gap) (o : Opens) (l : Option TokenKind) (rest : List Word) → Lead g o l → Shape o (Some last.kind) rest → Shape o l (w g ++ rest)) → Type_held w
 ended w v last is e h g o l rest lead more = h g o l rest lead (more last.kind e (sym (question_end (v g) last) ∙ ap ends_in_question (sym (is g))))
 

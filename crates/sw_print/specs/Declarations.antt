@@ -55,26 +55,26 @@ modifier_word modifier.Nonisolated = contextual (codes "nonisolated")
 modifier_word modifier.Static = plain k.Static
 modifier_word modifier.Mutating = contextual (codes "mutating")
 
--- modifiers, and what stands behind them
+-- modifiers, and what follows them
 abbrev pub modified : List Modifier → W → W
 modified [] x g = x g
 modified (m ∷ ms) x g = modifier_word m.kind g ∷ modified ms x gap.Space
 
--- modifiers by themselves, and what stands before what is written behind them
+-- modifiers by themselves, and what stands before what is written after them
 abbrev pub modifiers_words : List Modifier → W
 modifiers_words [] g = []
 modifiers_words (m ∷ ms) g = modifier_word m.kind g ∷ modifiers_words ms gap.Space
 
-abbrev pub behind_modifiers : List Modifier → Gap → Gap
-behind_modifiers [] g = g
-behind_modifiers (m ∷ ms) g = gap.Space
+abbrev pub after_modifiers : List Modifier → Gap → Gap
+after_modifiers [] g = g
+after_modifiers (m ∷ ms) g = gap.Space
 
 -- ---- types and funcs
 
 abbrev pub typealias_words : Typealias → W
 typealias_words x g = plain k.Typealias g ∷ name_word x.name gap.Space ∷ plain k.Assign gap.Space ∷ type_words x.target gap.Space
 
--- the names behind the `:` of a declared type
+-- the names after the `:` of a declared type
 abbrev pub conformances_words : List Name → List Word
 conformances_words [] = []
 conformances_words (x ∷ xs) = plain k.Colon gap.Space ∷ listed (map (λ name g. name_word name g ∷ []) (x ∷ xs))
@@ -107,7 +107,7 @@ abbrev pub type_parameters_words : List TypeParameter → List Word
 type_parameters_words [] = []
 type_parameters_words (x ∷ xs) = plain k.Less gap.Space ∷ (listed (map type_parameter_words (x ∷ xs)) ++ plain k.Greater gap.Space ∷ [])
 
--- a func without its body, behind its modifiers
+-- a func without its body, after its modifiers
 abbrev pub signature_rest : Signature → List Word
 signature_rest x =
     type_parameters_words x.type_parameters

@@ -79,7 +79,7 @@ ends_in_question [] = false
 ends_in_question (word ∷ []) = is_question word.kind
 ends_in_question (word ∷ next ∷ words) = ends_in_question (next ∷ words)
 
--- A type's `?` touches what precedes. No source has another `?` behind one: it would stand apart, since `??` is one mark.
+-- A type's `?` touches what precedes. No source has another `?` after one: it would stand apart, since `??` is one mark.
 abbrev pub mark_gap : List Word → Gap
 mark_gap words = if ends_in_question words then gap.Space else gap.Joined
 
@@ -117,7 +117,7 @@ mark_of binary.Multiply = k.Star
 mark_of binary.Divide = k.Slash
 mark_of binary.Remainder = k.Percent
 
--- a sign and its operand: no space stands behind `-`
+-- a sign and its operand: no space follows `-`
 abbrev pub signed : PrefixOperator → W → W
 signed prefix.Minus x g = plain k.Minus g ∷ x gap.Joined
 signed prefix.Not x g = plain k.Bang g ∷ x gap.Space
@@ -126,7 +126,7 @@ abbrev pub bool_word : Bool → Gap → Word
 bool_word true = plain k.True
 bool_word false = plain k.False
 
--- the rest of a string behind its first piece: within it nothing stands around an expression
+-- the rest of a string after its first piece: within it nothing stands around an expression
 abbrev pub pieces_words : W × Text → List (W × Text) → List Word
 pieces_words (x, text) [] = x gap.Joined ++ word k.StringLast text gap.Joined ∷ []
 pieces_words (x, text) (piece ∷ pieces) = x gap.Joined ++ (word k.StringMiddle text gap.Joined ∷ pieces_words piece pieces)

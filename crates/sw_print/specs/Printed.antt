@@ -4,8 +4,8 @@ use Rattle.sw_lex.specs.declared.token.Token.{Token}
 use Rattle.sw_lex.specs.Bytes.{Text}
 use Rattle.sw_lex.specs.Rules.{BreaksNone}
 use Rattle.sw_lex.specs.Tokens.{CutsInto, EndsOnce}
-use Rattle.sw_syntax.specs.Meaning.{Spells, source_room}
-use Rattle.sw_syntax.specs.Symbols.{File}
+use Rattle.sw_syntax.specs.Meaning.{Spells, source_budget}
+use Rattle.sw_syntax.specs.Nonterminals.{File}
 use Rattle.sw_syntax.specs.Tokens.{sighted}
 use Rattle.sw_tree.specs.declared.decl.Tree.{Tree}
 use Rattle.sw_tree.specs.Erased.{erase}
@@ -16,12 +16,12 @@ IsLexed source tokens = CutsInto source tokens × EndsOnce tokens × BreaksNone 
 
 -- the tree that `parse` gives of the tokens of a source
 abbrev pub IsParsed : Tree → Type 0
-IsParsed tree = (source : Text) × (tokens : List Token) × IsLexed source tokens × Spells false File source_room (sighted tokens) tree
+IsParsed tree = (source : Text) × (tokens : List Token) × IsLexed source tokens × Spells false File source_budget (sighted tokens) tree
 
 -- The text spells the tree: it is cut into tokens that spell a tree which is the same but for its places.
 abbrev pub SpellsTree : Text → Tree → Type 0
 SpellsTree text tree =
-    (tokens : List Token) × CutsInto text tokens × ((other : Tree) × Spells false File source_room (sighted tokens) other × (erase other ≡ erase tree))
+    (tokens : List Token) × CutsInto text tokens × ((other : Tree) × Spells false File source_budget (sighted tokens) other × (erase other ≡ erase tree))
 
 -- And it breaks no rule of tokens, so that `lex` gives these tokens, and `parse` that tree of them.
 abbrev pub IsParsedTo : Text → Tree → Type 0

@@ -103,8 +103,8 @@ begins_with_dot (first ∷ words) = is_dot first.kind
     is_dot k.Dot = true
     is_dot kind = false
 
--- A statement behind another has a line of its own; one that begins with `.` stands on the line on which the one before
--- it ends, behind `;`.
+-- A statement after another has a line of its own; one that begins with `.` stands on the line on which the one before
+-- it ends, after `;`.
 abbrev pub separated : W → List Word
 separated x = if begins_with_dot (x gap.Line) then plain k.Semicolon gap.Space ∷ x gap.Space else x gap.Line
 
@@ -130,7 +130,7 @@ abbrev pub label_words : ArmLabel → W
 label_words (arm.Case patterns) g = plain k.Case g ∷ (listed (map pattern_words patterns) ++ plain k.Colon gap.Space ∷ [])
 label_words arm.Default g = plain k.Default g ∷ plain k.Colon gap.Space ∷ []
 
--- each behind an `else`
+-- each after an `else`
 abbrev pub else_ifs : List W → List Word
 else_ifs [] = []
 else_ifs (x ∷ xs) = plain k.Else gap.Space ∷ (x gap.Space ++ else_ifs xs)

@@ -1,7 +1,7 @@
-//! Declarations of a file.
+//! Writes the declarations of a file.
 
 ghost use Rattle.std.specs.Prelude.{◌≡◌, [], ◌∷◌, ◌++◌, map, OnOk};
-ghost use Rattle.sw_layout.specs.Words.{row_text};
+ghost use Rattle.sw_layout.specs.Words.{words_text};
 ghost use Rattle.sw_print.specs.Expressions.{name_word, word};
 ghost use Rattle.sw_print.specs.Statements.{each_line, in_braces};
 ghost use Rattle.sw_print.specs.Declarations.{conformances_words, decl_words, heading_words};
@@ -24,10 +24,10 @@ impl Written for Name {
     }
 }
 
-/// Writes the names behind the `:` of a declared type, where there are any.
-#[tactic(auto, using(crate::proofs::Rows::row_rules))]
+/// Writes the names after the `:` of a declared type, where there are any.
+#[tactic(auto, using(crate::proofs::TextLemmas::text_rules))]
 fn write_conformances(page: &mut Page, names: &[Name]) -> Result<(), NoMemory>
-    ensures { OnOk result (page.new ≡ page.old ++ row_text (conformances_words names.now)) }
+    ensures { OnOk result (page.new ≡ page.old ++ words_text (conformances_words names.now)) }
 {
     if names.is_empty() {
         return Ok(());
@@ -36,7 +36,7 @@ fn write_conformances(page: &mut Page, names: &[Name]) -> Result<(), NoMemory>
     write_listed(page, names)
 }
 
-/// Writes a heading up to its brace: the kind of the type stands behind the modifiers.
+/// Writes a heading up to its brace: the kind of the type follows the modifiers.
 #[tactic(auto, using(crate::proofs::Modifiers::modified_rules))]
 fn write_heading(
     page: &mut Page,
@@ -46,7 +46,7 @@ fn write_heading(
     before: Gap,
 ) -> Result<(), NoMemory>
     ensures { OnOk result (page.new ≡ page.old
-        ++ row_text (heading_words (word kind spelling.now) heading.now before)) }
+        ++ words_text (heading_words (word kind spelling.now) heading.now before)) }
 {
     let before = write_modifiers(page, heading.modifiers.as_slice(), before)?;
     page.word(kind, spelling, before)?;
@@ -55,9 +55,9 @@ fn write_heading(
 }
 
 /// Writes items between braces, each on a line of its own.
-#[tactic(auto, using(crate::proofs::Rows::row_rules))]
+#[tactic(auto, using(crate::proofs::TextLemmas::text_rules))]
 fn write_items<T: Written>(page: &mut Page, items: &[T]) -> Result<(), NoMemory>
-    ensures { OnOk result (page.new ≡ page.old ++ row_text (in_braces (each_line (map T.words items.now)))) }
+    ensures { OnOk result (page.new ≡ page.old ++ words_text (in_braces (each_line (map T.words items.now)))) }
 {
     page.plain(TokenKind::LeftBrace, Gap::Space)?;
     write_lines(page, items)?;

@@ -1,10 +1,10 @@
-//! Expressions and literals.
+//! Writes expressions and literals.
 
 ghost use Rattle.std.specs.Prelude.{◌≡◌, [], ◌∷◌, ◌++◌, map, OnOk};
 ghost use Rattle.std.specs.Fmt.{signed_decimal};
 ghost use Rattle.sw_lex.specs.declared.token.TokenKind.TheVariants as TokenKindValue;
 ghost use Rattle.sw_layout.specs.declared.gap.Gap.TheVariants as GapValue;
-ghost use Rattle.sw_layout.specs.Words.{plain, row_text};
+ghost use Rattle.sw_layout.specs.Words.{plain, words_text};
 ghost use Rattle.sw_print.specs.Expressions.{word, bool_word, listed, mark_of, signed, try_words, expr_words, literal_words, argument_words};
 ghost use Rattle.sw_tree.specs.declared.expr.Literal.TheVariants as LiteralTree;
 
@@ -17,7 +17,7 @@ use sw_tree::{Argument, BinaryOperator, Expr, Literal, PrefixOperator, StringPie
 
 /// Writes `try` or `try?`.
 fn write_try(page: &mut Page, form: TryForm, before: Gap) -> Result<(), NoMemory>
-    ensures { OnOk result (page.new ≡ page.old ++ row_text (try_words form before)) }
+    ensures { OnOk result (page.new ≡ page.old ++ words_text (try_words form before)) }
 {
     page.plain(TokenKind::Try, before)?;
     match form {
@@ -52,14 +52,14 @@ fn mark_of(operator: BinaryOperator) -> TokenKind
 #[cycle(expr)]
 #[tactic(auto, using(crate::proofs::ExprWords::expr_rules))]
 pub fn write_expr(page: &mut Page, x: &Expr, before: Gap) -> Result<(), NoMemory>
-    ensures { OnOk result (page.new ≡ page.old ++ row_text (expr_words x.now before)) }
+    ensures { OnOk result (page.new ≡ page.old ++ words_text (expr_words x.now before)) }
 {
     match x {
         Expr::Try(form, _, operand) => {
             write_try(page, *form, before)?;
             write_expr(page, operand.get(), Gap::Space)
         }
-        Expr::Await(_, operand) => write_behind(page, TokenKind::Await, before, operand.get()),
+        Expr::Await(_, operand) => write_after_word(page, TokenKind::Await, before, operand.get()),
         Expr::Ternary(condition, both) => {
             write_expr(page, condition.get(), before)?;
             write_branches(page, both.get())
@@ -78,7 +78,7 @@ pub fn write_expr(page: &mut Page, x: &Expr, before: Gap) -> Result<(), NoMemory
         }
         Expr::Index(base, index) => {
             write_expr(page, base.get(), before)?;
-            write_behind(page, TokenKind::LeftBracket, Gap::Joined, &index.get().1)?;
+            write_after_word(page, TokenKind::LeftBracket, Gap::Joined, &index.get().1)?;
             page.plain(TokenKind::RightBracket, Gap::Space)
         }
         Expr::Force(operand, _) => {
@@ -96,80 +96,80 @@ pub fn write_expr(page: &mut Page, x: &Expr, before: Gap) -> Result<(), NoMemory
     }
 }
 
-/// Writes a word, and an expression behind it.
+/// Writes a word, and an expression after it.
 #[cycle(expr)]
-#[tactic(auto, using(crate::proofs::Rows::row_rules))]
-fn write_behind(page: &mut Page, kind: TokenKind, before: Gap, x: &Expr) -> Result<(), NoMemory>
-    ensures { OnOk result (page.new ≡ page.old ++ row_text (plain kind before ∷ expr_words x.now GapValue.Space)) }
+#[tactic(auto, using(crate::proofs::TextLemmas::text_rules))]
+fn write_after_word(page: &mut Page, kind: TokenKind, before: Gap, x: &Expr) -> Result<(), NoMemory>
+    ensures { OnOk result (page.new ≡ page.old ++ words_text (plain kind before ∷ expr_words x.now GapValue.Space)) }
 {
     page.plain(kind, before)?;
     write_expr(page, x, Gap::Space)
 }
 
-/// Writes the branches of a ternary, each behind its mark.
+/// Writes the branches of a ternary, each after its mark.
 #[cycle(expr)]
-#[tactic(auto, using(crate::proofs::Rows::row_rules))]
+#[tactic(auto, using(crate::proofs::TextLemmas::text_rules))]
 fn write_branches(page: &mut Page, both: &(Expr, Expr)) -> Result<(), NoMemory>
     ensures { OnOk result (page.new ≡ page.old
-        ++ row_text (plain TokenKindValue.Question GapValue.Space ∷ (expr_words both.now.0 GapValue.Space ++ (plain TokenKindValue.Colon GapValue.Space ∷ expr_words both.now.1 GapValue.Space)))) }
+        ++ words_text (plain TokenKindValue.Question GapValue.Space ∷ (expr_words both.now.0 GapValue.Space ++ (plain TokenKindValue.Colon GapValue.Space ∷ expr_words both.now.1 GapValue.Space)))) }
 {
-    write_behind(page, TokenKind::Question, Gap::Space, &both.0)?;
-    write_behind(page, TokenKind::Colon, Gap::Space, &both.1)
+    write_after_word(page, TokenKind::Question, Gap::Space, &both.0)?;
+    write_after_word(page, TokenKind::Colon, Gap::Space, &both.1)
 }
 
 /// Writes an operator between its operands.
 #[cycle(expr)]
-#[tactic(auto, using(crate::proofs::Rows::row_rules))]
+#[tactic(auto, using(crate::proofs::TextLemmas::text_rules))]
 fn write_binary(
     page: &mut Page,
     operator: BinaryOperator,
     both: &(Expr, Expr),
     before: Gap,
 ) -> Result<(), NoMemory>
-    ensures { OnOk result (page.new ≡ page.old ++ row_text (expr_words both.now.0 before ++ (plain (mark_of operator) GapValue.Space ∷ expr_words both.now.1 GapValue.Space))) }
+    ensures { OnOk result (page.new ≡ page.old ++ words_text (expr_words both.now.0 before ++ (plain (mark_of operator) GapValue.Space ∷ expr_words both.now.1 GapValue.Space))) }
 {
     let (left, right) = both;
     write_expr(page, left, before)?;
-    write_behind(page, mark_of(operator), Gap::Space, right)
+    write_after_word(page, mark_of(operator), Gap::Space, right)
 }
 
 /// Writes a sign and its operand.
 #[cycle(expr)]
-#[tactic(auto, using(crate::proofs::Rows::row_rules))]
+#[tactic(auto, using(crate::proofs::TextLemmas::text_rules))]
 fn write_signed(
     page: &mut Page,
     operator: PrefixOperator,
     x: &Expr,
     before: Gap,
 ) -> Result<(), NoMemory>
-    ensures { OnOk result (page.new ≡ page.old ++ row_text (signed operator (expr_words x.now) before)) }
+    ensures { OnOk result (page.new ≡ page.old ++ words_text (signed operator (expr_words x.now) before)) }
 {
     match operator {
         PrefixOperator::Minus => {
             page.plain(TokenKind::Minus, before)?;
             write_expr(page, x, Gap::Joined)
         }
-        PrefixOperator::Not => write_behind(page, TokenKind::Bang, before, x),
+        PrefixOperator::Not => write_after_word(page, TokenKind::Bang, before, x),
     }
 }
 
 /// Writes an expression in brackets.
 #[cycle(expr)]
-#[tactic(auto, using(crate::proofs::Rows::row_rules))]
+#[tactic(auto, using(crate::proofs::TextLemmas::text_rules))]
 fn write_paren(page: &mut Page, x: &Expr, before: Gap) -> Result<(), NoMemory>
     ensures { OnOk result (page.new ≡ page.old
-        ++ row_text (plain TokenKindValue.LeftParen before ∷ (expr_words x.now GapValue.Space ++ plain TokenKindValue.RightParen GapValue.Space ∷ []))) }
+        ++ words_text (plain TokenKindValue.LeftParen before ∷ (expr_words x.now GapValue.Space ++ plain TokenKindValue.RightParen GapValue.Space ∷ []))) }
 {
-    write_behind(page, TokenKind::LeftParen, before, x)?;
+    write_after_word(page, TokenKind::LeftParen, before, x)?;
     page.plain(TokenKind::RightParen, Gap::Space)
 }
 
 /// Writes an array.
 #[cycle(expr)]
-#[tactic(auto, using(crate::proofs::Rows::row_rules))]
+#[tactic(auto, using(crate::proofs::TextLemmas::text_rules))]
 fn write_array(page: &mut Page, elements: &[Expr], before: Gap) -> Result<(), NoMemory>
     ensures { OnOk result (page.new ≡ page.old
-        ++ row_text (plain TokenKindValue.LeftBracket before ∷ (listed (map expr_words elements.now) ++ plain TokenKindValue.RightBracket GapValue.Space ∷ []))) }
+        ++ words_text (plain TokenKindValue.LeftBracket before ∷ (listed (map expr_words elements.now) ++ plain TokenKindValue.RightBracket GapValue.Space ∷ []))) }
 {
     page.plain(TokenKind::LeftBracket, before)?;
     write_elements(page, elements)?;
@@ -179,7 +179,7 @@ fn write_array(page: &mut Page, elements: &[Expr], before: Gap) -> Result<(), No
 /// Writes the elements of an array.
 #[cycle(expr)]
 fn write_elements(page: &mut Page, elements: &[Expr]) -> Result<(), NoMemory>
-    ensures { OnOk result (page.new ≡ page.old ++ row_text (listed (map expr_words elements.now))) }
+    ensures { OnOk result (page.new ≡ page.old ++ words_text (listed (map expr_words elements.now))) }
 {
     match elements {
         [] => Ok(()),
@@ -197,7 +197,7 @@ fn write_elements(page: &mut Page, elements: &[Expr]) -> Result<(), NoMemory>
 /// Writes the arguments of a call.
 #[cycle(expr)]
 fn write_arguments(page: &mut Page, arguments: &[Argument]) -> Result<(), NoMemory>
-    ensures { OnOk result (page.new ≡ page.old ++ row_text (listed (map argument_words arguments.now))) }
+    ensures { OnOk result (page.new ≡ page.old ++ words_text (listed (map argument_words arguments.now))) }
 {
     match arguments {
         [] => Ok(()),
@@ -212,24 +212,24 @@ fn write_arguments(page: &mut Page, arguments: &[Argument]) -> Result<(), NoMemo
     }
 }
 
-/// Writes an argument, behind its label where it has one.
+/// Writes an argument, after its label where it has one.
 #[cycle(expr)]
-#[tactic(auto, using(crate::proofs::Rows::row_rules))]
+#[tactic(auto, using(crate::proofs::TextLemmas::text_rules))]
 fn write_argument(page: &mut Page, argument: &Argument, before: Gap) -> Result<(), NoMemory>
-    ensures { OnOk result (page.new ≡ page.old ++ row_text (argument_words argument.now before)) }
+    ensures { OnOk result (page.new ≡ page.old ++ words_text (argument_words argument.now before)) }
 {
     match &argument.label {
         None => write_expr(page, &argument.value, before),
         Some(label) => {
             write_label(page, label, before)?;
-            write_behind(page, TokenKind::Colon, Gap::Space, &argument.value)
+            write_after_word(page, TokenKind::Colon, Gap::Space, &argument.value)
         }
     }
 }
 
 /// Writes an integer: a sign, where it is negative, and its decimal digits.
 fn write_integer(page: &mut Page, n: i64, before: Gap) -> Result<(), NoMemory>
-    ensures { OnOk result (page.new ≡ page.old ++ row_text (word TokenKindValue.Integer (signed_decimal n) before ∷ [])) }
+    ensures { OnOk result (page.new ≡ page.old ++ words_text (word TokenKindValue.Integer (signed_decimal n) before ∷ [])) }
 {
     let digits = n.to_string(page.allocator())?;
     page.word(TokenKind::Integer, digits.as_bytes(), before)
@@ -237,7 +237,7 @@ fn write_integer(page: &mut Page, n: i64, before: Gap) -> Result<(), NoMemory>
 
 /// Writes `true` or `false`.
 fn write_bool(page: &mut Page, value: bool, before: Gap) -> Result<(), NoMemory>
-    ensures { OnOk result (page.new ≡ page.old ++ row_text (bool_word value before ∷ [])) }
+    ensures { OnOk result (page.new ≡ page.old ++ words_text (bool_word value before ∷ [])) }
 {
     if value {
         page.plain(TokenKind::True, before)
@@ -250,7 +250,7 @@ fn write_bool(page: &mut Page, value: bool, before: Gap) -> Result<(), NoMemory>
 #[cycle(expr)]
 #[tactic(auto, using(crate::proofs::ExprWords::literal_rules))]
 pub fn write_literal(page: &mut Page, literal: &Literal, before: Gap) -> Result<(), NoMemory>
-    ensures { OnOk result (page.new ≡ page.old ++ row_text (literal_words literal.now before)) }
+    ensures { OnOk result (page.new ≡ page.old ++ words_text (literal_words literal.now before)) }
 {
     match literal {
         Literal::Integer(n) => write_integer(page, *n, before),
@@ -261,16 +261,16 @@ pub fn write_literal(page: &mut Page, literal: &Literal, before: Gap) -> Result<
     }
 }
 
-/// Writes a string: the text up to its first expression, and the pieces behind.
+/// Writes a string: the text up to its first expression, and the pieces after.
 #[cycle(expr)]
-#[tactic(auto, using(crate::proofs::Rows::row_rules))]
+#[tactic(auto, using(crate::proofs::TextLemmas::text_rules))]
 fn write_string(
     page: &mut Page,
     text: &[u8],
     pieces: &[StringPiece],
     before: Gap,
 ) -> Result<(), NoMemory>
-    ensures { OnOk result (page.new ≡ page.old ++ row_text (literal_words (LiteralTree.String text.now pieces.now) before)) }
+    ensures { OnOk result (page.new ≡ page.old ++ words_text (literal_words (LiteralTree.String text.now pieces.now) before)) }
 {
     match pieces {
         [] => page.word(TokenKind::StringWhole, text, before),

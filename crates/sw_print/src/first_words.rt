@@ -1,4 +1,4 @@
-//! Statements that begin with `.`.
+//! Finds statements that begin with `.`.
 
 ghost use Rattle.std.specs.Prelude.{◌≡◌, List, ◌++◌};
 ghost use Rattle.sw_layout.specs.declared.gap.Gap.TheVariants as GapValue;
@@ -8,10 +8,10 @@ ghost use Rattle.sw_print.specs.Statements.{begins_with_dot, stmt_words};
 
 use sw_tree::{Expr, Stmt};
 
-/// Tells whether an expression begins with `.` as it is written, whatever stands behind it.
+/// Tells whether an expression begins with `.` as it is written, whatever follows it.
 #[cycle(left)]
 fn begins_with_dot(x: &Expr) -> bool
-    ensures { (behind : List Word) → begins_with_dot (expr_words x.now GapValue.Line ++ behind) ≡ result }
+    ensures { (following : List Word) → begins_with_dot (expr_words x.now GapValue.Line ++ following) ≡ result }
 {
     match x {
         Expr::Implicit(..) => true,

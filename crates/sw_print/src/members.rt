@@ -1,8 +1,8 @@
-//! Members of declared types.
+//! Writes members of declared types.
 
 ghost use Rattle.std.specs.Prelude.{◌≡◌, [], ◌∷◌, ◌++◌, codes, OnOk};
 ghost use Rattle.sw_layout.specs.declared.gap.Gap.TheVariants as GapValue;
-ghost use Rattle.sw_layout.specs.Words.{row_text};
+ghost use Rattle.sw_layout.specs.Words.{words_text};
 ghost use Rattle.sw_print.specs.Declarations.{accessor_words, case_words, computed_words, contextual, func_words, initializer_words, item_words, member_words, payload_words, requirement_words, stored_words, typealias_words};
 
 use crate::clauses::{write_annotation, write_binding, write_declared, write_value};
@@ -21,9 +21,9 @@ use sw_tree::{
 };
 
 /// Writes a `typealias`.
-#[tactic(auto, using(crate::proofs::Rows::row_rules))]
+#[tactic(auto, using(crate::proofs::TextLemmas::text_rules))]
 pub fn write_typealias(page: &mut Page, x: &Typealias, before: Gap) -> Result<(), NoMemory>
-    ensures { OnOk result (page.new ≡ page.old ++ row_text (typealias_words x.now before)) }
+    ensures { OnOk result (page.new ≡ page.old ++ words_text (typealias_words x.now before)) }
 {
     page.plain(TokenKind::Typealias, before)?;
     write_name(page, &x.name, Gap::Space)?;
@@ -32,9 +32,9 @@ pub fn write_typealias(page: &mut Page, x: &Typealias, before: Gap) -> Result<()
 }
 
 /// Writes a func with its body.
-#[tactic(auto, using(crate::proofs::Rows::row_rules))]
+#[tactic(auto, using(crate::proofs::TextLemmas::text_rules))]
 pub fn write_func(page: &mut Page, x: &Func, before: Gap) -> Result<(), NoMemory>
-    ensures { OnOk result (page.new ≡ page.old ++ row_text (func_words x.now before)) }
+    ensures { OnOk result (page.new ≡ page.old ++ words_text (func_words x.now before)) }
 {
     write_signature(page, &x.signature, before)?;
     write_block(page, x.body.as_slice())
@@ -43,7 +43,7 @@ pub fn write_func(page: &mut Page, x: &Func, before: Gap) -> Result<(), NoMemory
 /// Writes a stored property.
 #[tactic(auto, using(crate::proofs::Modifiers::modified_rules))]
 fn write_stored(page: &mut Page, x: &StoredProperty, before: Gap) -> Result<(), NoMemory>
-    ensures { OnOk result (page.new ≡ page.old ++ row_text (stored_words x.now before)) }
+    ensures { OnOk result (page.new ≡ page.old ++ words_text (stored_words x.now before)) }
 {
     let before = write_modifiers(page, x.modifiers.as_slice(), before)?;
     write_binding(page, x.binding, before)?;
@@ -54,15 +54,15 @@ fn write_stored(page: &mut Page, x: &StoredProperty, before: Gap) -> Result<(), 
 
 /// Writes the word `get`, which is no reserved one.
 fn write_get(page: &mut Page) -> Result<(), NoMemory>
-    ensures { OnOk result (page.new ≡ page.old ++ row_text (contextual (codes "get") GapValue.Space ∷ [])) }
+    ensures { OnOk result (page.new ≡ page.old ++ words_text (contextual (codes "get") GapValue.Space ∷ [])) }
 {
     page.word(TokenKind::Name, b"get", Gap::Space)
 }
 
 /// Writes the getter of a computed property.
-#[tactic(auto, using(crate::proofs::Rows::row_rules))]
+#[tactic(auto, using(crate::proofs::TextLemmas::text_rules))]
 fn write_accessor(page: &mut Page, accessor: &Accessor) -> Result<(), NoMemory>
-    ensures { OnOk result (page.new ≡ page.old ++ row_text (accessor_words accessor.now)) }
+    ensures { OnOk result (page.new ≡ page.old ++ words_text (accessor_words accessor.now)) }
 {
     match accessor {
         Accessor::Body(body) => write_block(page, body.as_slice()),
@@ -78,7 +78,7 @@ fn write_accessor(page: &mut Page, accessor: &Accessor) -> Result<(), NoMemory>
 /// Writes a computed property.
 #[tactic(auto, using(crate::proofs::Modifiers::modified_rules))]
 fn write_computed(page: &mut Page, x: &ComputedProperty, before: Gap) -> Result<(), NoMemory>
-    ensures { OnOk result (page.new ≡ page.old ++ row_text (computed_words x.now before)) }
+    ensures { OnOk result (page.new ≡ page.old ++ words_text (computed_words x.now before)) }
 {
     let before = write_modifiers(page, x.modifiers.as_slice(), before)?;
     page.plain(TokenKind::Var, before)?;
@@ -90,7 +90,7 @@ fn write_computed(page: &mut Page, x: &ComputedProperty, before: Gap) -> Result<
 /// Writes an initialiser.
 #[tactic(auto, using(crate::proofs::Modifiers::modified_rules))]
 fn write_initializer(page: &mut Page, x: &Initializer, before: Gap) -> Result<(), NoMemory>
-    ensures { OnOk result (page.new ≡ page.old ++ row_text (initializer_words x.now before)) }
+    ensures { OnOk result (page.new ≡ page.old ++ words_text (initializer_words x.now before)) }
 {
     let before = write_modifiers(page, x.modifiers.as_slice(), before)?;
     page.plain(TokenKind::Init, before)?;
@@ -116,7 +116,7 @@ impl Written for Member {
 impl Written for Payload {
     ghost words = { payload_words };
 
-    #[tactic(auto, using(crate::proofs::Rows::row_rules))]
+    #[tactic(auto, using(crate::proofs::TextLemmas::text_rules))]
     fn write(&self, page: &mut Page, before: Gap) -> Result<(), NoMemory> {
         match &self.label {
             None => write_type(page, &self.declared, before),
@@ -131,7 +131,7 @@ impl Written for Payload {
 impl Written for Case {
     ghost words = { case_words };
 
-    #[tactic(auto, using(crate::proofs::Rows::row_rules))]
+    #[tactic(auto, using(crate::proofs::TextLemmas::text_rules))]
     fn write(&self, page: &mut Page, before: Gap) -> Result<(), NoMemory> {
         write_name(page, &self.name, before)?;
         match &self.payload {
@@ -144,7 +144,7 @@ impl Written for Case {
 impl Written for EnumItem {
     ghost words = { item_words };
 
-    #[tactic(auto, using(crate::proofs::Rows::row_rules))]
+    #[tactic(auto, using(crate::proofs::TextLemmas::text_rules))]
     fn write(&self, page: &mut Page, before: Gap) -> Result<(), NoMemory> {
         match self {
             EnumItem::Cases(cases) => {
@@ -159,7 +159,7 @@ impl Written for EnumItem {
 impl Written for Requirement {
     ghost words = { requirement_words };
 
-    #[tactic(auto, using(crate::proofs::Rows::row_rules))]
+    #[tactic(auto, using(crate::proofs::TextLemmas::text_rules))]
     fn write(&self, page: &mut Page, before: Gap) -> Result<(), NoMemory> {
         match self {
             Requirement::Func(signature) => write_signature(page, signature, before),

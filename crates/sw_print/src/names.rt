@@ -1,7 +1,7 @@
-//! Names, and labels, which may be reserved words.
+//! Writes names, and labels, which may be reserved words.
 
 ghost use Rattle.std.specs.Prelude.{◌≡◌, [], ◌∷◌, ◌++◌, OnOk};
-ghost use Rattle.sw_layout.specs.Words.{row_text};
+ghost use Rattle.sw_layout.specs.Words.{words_text};
 ghost use Rattle.sw_print.specs.Expressions.{around, name_word, label_word, dot_name};
 
 use crate::page::Page;
@@ -12,14 +12,14 @@ use sw_tree::Name;
 
 /// Writes a name.
 pub fn write_name(page: &mut Page, name: &Name, before: Gap) -> Result<(), NoMemory>
-    ensures { OnOk result (page.new ≡ page.old ++ row_text (name_word name.now before ∷ [])) }
+    ensures { OnOk result (page.new ≡ page.old ++ words_text (name_word name.now before ∷ [])) }
 {
     page.word(TokenKind::Name, name.text.as_bytes(), before)
 }
 
 /// Writes a label. A reserved word is spelt as a name would be.
 pub fn write_label(page: &mut Page, name: &Name, before: Gap) -> Result<(), NoMemory>
-    ensures { OnOk result (page.new ≡ page.old ++ row_text (label_word name.now before ∷ [])) }
+    ensures { OnOk result (page.new ≡ page.old ++ words_text (label_word name.now before ∷ [])) }
 {
     page.word(TokenKind::Name, name.text.as_bytes(), before)
 }
@@ -34,9 +34,9 @@ fn around(before: Gap) -> Gap
     }
 }
 
-/// Writes a `.` and a name behind it.
+/// Writes a `.` and a name after it.
 pub fn write_dot_name(page: &mut Page, name: &Name, before: Gap) -> Result<(), NoMemory>
-    ensures { OnOk result (page.new ≡ page.old ++ row_text (dot_name name.now before)) }
+    ensures { OnOk result (page.new ≡ page.old ++ words_text (dot_name name.now before)) }
 {
     page.plain(TokenKind::Dot, around(before))?;
     write_name(page, name, Gap::Joined)

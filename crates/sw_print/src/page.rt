@@ -1,13 +1,13 @@
 //! A text that grows by words.
 
 ghost use Rattle.std.specs.Prelude.{◌≡◌, [], ◌∷◌, ◌++◌, IfOk, OnOk};
-ghost use Rattle.sw_layout.specs.Words.{gap_text, escape, escapes, spelling, plain, row_text};
+ghost use Rattle.sw_layout.specs.Words.{gap_text, escape, escapes, spelling, plain, words_text};
 ghost use Rattle.sw_print.specs.Expressions.{word};
 
 use std::alloc::Global;
 use std::marker::Model;
 use sw_base::{NoMemory, Text};
-use sw_layout::{Gap, fixed};
+use sw_layout::Gap;
 use sw_lex::TokenKind;
 
 /// A text that grows by words, which contracts see as its bytes.
@@ -90,12 +90,12 @@ impl Page {
     }
 
     /// Writes a piece of a string between what opens and what closes it.
-    fn piece(&mut self, before: &[u8], text: &[u8], behind: &[u8]) -> Result<(), NoMemory>
-        ensures { OnOk result (self.new ≡ self.old ++ (before.now ++ (escapes text.now ++ behind.now))) }
+    fn piece(&mut self, before: &[u8], text: &[u8], following: &[u8]) -> Result<(), NoMemory>
+        ensures { OnOk result (self.new ≡ self.old ++ (before.now ++ (escapes text.now ++ following.now))) }
     {
         self.bytes(before)?;
         self.escapes(text)?;
-        self.bytes(behind)
+        self.bytes(following)
     }
 
     /// Writes a word without what stands before it.
@@ -113,7 +113,7 @@ impl Page {
 
     /// Writes a word of this kind, with this text.
     pub fn word(&mut self, kind: TokenKind, text: &[u8], before: Gap) -> Result<(), NoMemory>
-        ensures { OnOk result (self.new ≡ self.old ++ row_text (word kind text.now before ∷ [])) }
+        ensures { OnOk result (self.new ≡ self.old ++ words_text (word kind text.now before ∷ [])) }
     {
         self.gap(before)?;
         self.spelling(kind, text)
@@ -121,8 +121,8 @@ impl Page {
 
     /// Writes a reserved word, a lone `_` or a mark.
     pub fn plain(&mut self, kind: TokenKind, before: Gap) -> Result<(), NoMemory>
-        ensures { OnOk result (self.new ≡ self.old ++ row_text (plain kind before ∷ [])) }
+        ensures { OnOk result (self.new ≡ self.old ++ words_text (plain kind before ∷ [])) }
     {
-        self.word(kind, fixed(kind), before)
+        self.word(kind, kind.spelling(), before)
     }
 }

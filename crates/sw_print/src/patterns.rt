@@ -1,7 +1,7 @@
-//! Patterns of a `switch` and of a `catch`.
+//! Writes patterns of a `switch` and of a `catch`.
 
 ghost use Rattle.std.specs.Prelude.{◌≡◌, ◌++◌, OnOk};
-ghost use Rattle.sw_layout.specs.Words.{row_text};
+ghost use Rattle.sw_layout.specs.Words.{words_text};
 ghost use Rattle.sw_print.specs.Statements.{bind_words, binds_words, catch_pattern_words, label_words, pattern_words};
 
 use crate::expressions::write_literal;
@@ -30,7 +30,7 @@ impl Written for Bind {
 
 /// Writes the brackets of a pattern, where it has them.
 fn write_binds(page: &mut Page, binds: &Option<Items<Bind>>) -> Result<(), NoMemory>
-    ensures { OnOk result (page.new ≡ page.old ++ row_text (binds_words binds.now)) }
+    ensures { OnOk result (page.new ≡ page.old ++ words_text (binds_words binds.now)) }
 {
     match binds {
         None => Ok(()),
@@ -41,7 +41,7 @@ fn write_binds(page: &mut Page, binds: &Option<Items<Bind>>) -> Result<(), NoMem
 impl Written for Pattern {
     ghost words = { pattern_words };
 
-    #[tactic(auto, using(crate::proofs::Rows::row_rules))]
+    #[tactic(auto, using(crate::proofs::TextLemmas::text_rules))]
     fn write(&self, page: &mut Page, before: Gap) -> Result<(), NoMemory> {
         match self {
             Pattern::Any(_) => page.plain(TokenKind::Underscore, before),
@@ -61,13 +61,13 @@ impl Written for Pattern {
 }
 
 /// Writes the pattern of a `catch`.
-#[tactic(auto, using(crate::proofs::Rows::row_rules))]
+#[tactic(auto, using(crate::proofs::TextLemmas::text_rules))]
 pub fn write_catch_pattern(
     page: &mut Page,
     pattern: &CatchPattern,
     before: Gap,
 ) -> Result<(), NoMemory>
-    ensures { OnOk result (page.new ≡ page.old ++ row_text (catch_pattern_words pattern.now before)) }
+    ensures { OnOk result (page.new ≡ page.old ++ words_text (catch_pattern_words pattern.now before)) }
 {
     match pattern {
         CatchPattern::As(name, of) => {
@@ -85,9 +85,9 @@ pub fn write_catch_pattern(
 }
 
 /// Writes what stands before the statements of an arm.
-#[tactic(auto, using(crate::proofs::Rows::row_rules))]
+#[tactic(auto, using(crate::proofs::TextLemmas::text_rules))]
 pub fn write_arm_label(page: &mut Page, label: &ArmLabel, before: Gap) -> Result<(), NoMemory>
-    ensures { OnOk result (page.new ≡ page.old ++ row_text (label_words label.now before)) }
+    ensures { OnOk result (page.new ≡ page.old ++ words_text (label_words label.now before)) }
 {
     match label {
         ArmLabel::Case(patterns) => {

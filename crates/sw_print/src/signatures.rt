@@ -1,11 +1,11 @@
-//! Modifiers, parameters and signatures.
+//! Writes modifiers, parameters and signatures.
 
 ghost use Rattle.std.specs.Prelude.{◌≡◌, [], ◌∷◌, ◌++◌, OnOk, IfOk};
 ghost use Rattle.sw_lex.specs.declared.token.TokenKind.TheVariants as TokenKindValue;
 ghost use Rattle.sw_layout.specs.declared.gap.Gap.TheVariants as GapValue;
-ghost use Rattle.sw_layout.specs.Words.{plain, row_text};
+ghost use Rattle.sw_layout.specs.Words.{plain, words_text};
 ghost use Rattle.sw_print.specs.Expressions.{perhaps, if_there, type_words};
-ghost use Rattle.sw_print.specs.Declarations.{at_place, behind_modifiers, modifiers_words, modifier_word, parameter_label_words, parameter_words, signature_rest, signature_words, type_parameter_words, type_parameters_words};
+ghost use Rattle.sw_print.specs.Declarations.{at_place, after_modifiers, modifiers_words, modifier_word, parameter_label_words, parameter_words, signature_rest, signature_words, type_parameter_words, type_parameters_words};
 
 use crate::names::{write_label, write_name};
 use crate::page::Page;
@@ -20,7 +20,7 @@ use sw_tree::{
 
 /// Writes a modifier. A word that is no reserved one is a name.
 fn write_modifier(page: &mut Page, kind: ModifierKind, before: Gap) -> Result<(), NoMemory>
-    ensures { OnOk result (page.new ≡ page.old ++ row_text (modifier_word kind before ∷ [])) }
+    ensures { OnOk result (page.new ≡ page.old ++ words_text (modifier_word kind before ∷ [])) }
 {
     match kind {
         ModifierKind::Public => page.plain(TokenKind::Public, before),
@@ -35,14 +35,14 @@ fn write_modifier(page: &mut Page, kind: ModifierKind, before: Gap) -> Result<()
     }
 }
 
-/// Writes modifiers, and tells what stands before what follows them.
+/// Writes modifiers, and answers what stands before the word after them.
 pub fn write_modifiers(
     page: &mut Page,
     modifiers: &[Modifier],
     before: Gap,
 ) -> Result<Gap, NoMemory>
-    ensures words { OnOk result (page.new ≡ page.old ++ row_text (modifiers_words modifiers.now before)) }
-    ensures gap { IfOk result (λ gap. gap ≡ behind_modifiers modifiers.now before) }
+    ensures words { OnOk result (page.new ≡ page.old ++ words_text (modifiers_words modifiers.now before)) }
+    ensures gap { IfOk result (λ gap. gap ≡ after_modifiers modifiers.now before) }
 {
     let mut gap = before;
     for modifier in modifiers {
@@ -54,7 +54,7 @@ pub fn write_modifiers(
 
 /// Writes a reserved word or a mark, where it is there.
 pub fn write_if_there(page: &mut Page, kind: TokenKind, there: bool) -> Result<(), NoMemory>
-    ensures { OnOk result (page.new ≡ page.old ++ row_text (if_there kind there)) }
+    ensures { OnOk result (page.new ≡ page.old ++ words_text (if_there kind there)) }
 {
     if there {
         page.plain(kind, Gap::Space)
@@ -65,7 +65,7 @@ pub fn write_if_there(page: &mut Page, kind: TokenKind, there: bool) -> Result<(
 
 /// Writes a reserved word or a mark, where it has a place.
 fn write_at_place(page: &mut Page, kind: TokenKind, place: Option<Span>) -> Result<(), NoMemory>
-    ensures { OnOk result (page.new ≡ page.old ++ row_text (at_place kind place)) }
+    ensures { OnOk result (page.new ≡ page.old ++ words_text (at_place kind place)) }
 {
     match place {
         None => Ok(()),
@@ -80,7 +80,7 @@ fn write_parameter_name(
     name: &Name,
     before: Gap,
 ) -> Result<(), NoMemory>
-    ensures { OnOk result (page.new ≡ page.old ++ row_text (parameter_label_words label.now name.now before)) }
+    ensures { OnOk result (page.new ≡ page.old ++ words_text (parameter_label_words label.now name.now before)) }
 {
     match label {
         ParameterLabel::Own => write_name(page, name, before),
@@ -98,7 +98,7 @@ fn write_parameter_name(
 impl Written for Parameter {
     ghost words = { parameter_words };
 
-    #[tactic(auto, using(crate::proofs::Rows::row_rules))]
+    #[tactic(auto, using(crate::proofs::TextLemmas::text_rules))]
     fn write(&self, page: &mut Page, before: Gap) -> Result<(), NoMemory> {
         write_parameter_name(page, &self.label, &self.name, before)?;
         page.plain(TokenKind::Colon, Gap::Space)?;
@@ -111,7 +111,7 @@ impl Written for Parameter {
 impl Written for TypeParameter {
     ghost words = { type_parameter_words };
 
-    #[tactic(auto, using(crate::proofs::Rows::row_rules))]
+    #[tactic(auto, using(crate::proofs::TextLemmas::text_rules))]
     fn write(&self, page: &mut Page, before: Gap) -> Result<(), NoMemory> {
         write_name(page, &self.name, before)?;
         match &self.constraint {
@@ -125,9 +125,9 @@ impl Written for TypeParameter {
 }
 
 /// Writes type parameters, where there are any.
-#[tactic(auto, using(crate::proofs::Rows::row_rules))]
+#[tactic(auto, using(crate::proofs::TextLemmas::text_rules))]
 fn write_type_parameters(page: &mut Page, parameters: &[TypeParameter]) -> Result<(), NoMemory>
-    ensures { OnOk result (page.new ≡ page.old ++ row_text (type_parameters_words parameters.now)) }
+    ensures { OnOk result (page.new ≡ page.old ++ words_text (type_parameters_words parameters.now)) }
 {
     if parameters.is_empty() {
         return Ok(());
@@ -137,11 +137,11 @@ fn write_type_parameters(page: &mut Page, parameters: &[TypeParameter]) -> Resul
     page.plain(TokenKind::Greater, Gap::Space)
 }
 
-/// Writes the type of a result behind its arrow, where there is one.
-#[tactic(auto, using(crate::proofs::Rows::row_rules))]
+/// Writes the type of a result after its arrow, where there is one.
+#[tactic(auto, using(crate::proofs::TextLemmas::text_rules))]
 fn write_result(page: &mut Page, result_type: &Option<Type>) -> Result<(), NoMemory>
     ensures { OnOk result (page.new ≡ page.old
-        ++ row_text (perhaps (λ of. plain TokenKindValue.Arrow GapValue.Space ∷ type_words of GapValue.Space) result_type.now)) }
+        ++ words_text (perhaps (λ of. plain TokenKindValue.Arrow GapValue.Space ∷ type_words of GapValue.Space) result_type.now)) }
 {
     match result_type {
         None => Ok(()),
@@ -152,10 +152,10 @@ fn write_result(page: &mut Page, result_type: &Option<Type>) -> Result<(), NoMem
     }
 }
 
-/// Writes what stands behind the name of a func.
-#[tactic(auto, using(crate::proofs::Rows::row_rules))]
+/// Writes what follows the name of a func.
+#[tactic(auto, using(crate::proofs::TextLemmas::text_rules))]
 fn write_signature_rest(page: &mut Page, x: &Signature) -> Result<(), NoMemory>
-    ensures { OnOk result (page.new ≡ page.old ++ row_text (signature_rest x.now)) }
+    ensures { OnOk result (page.new ≡ page.old ++ words_text (signature_rest x.now)) }
 {
     write_type_parameters(page, x.type_parameters.as_slice())?;
     write_in_parens(page, x.parameters.as_slice())?;
@@ -167,7 +167,7 @@ fn write_signature_rest(page: &mut Page, x: &Signature) -> Result<(), NoMemory>
 /// Writes a func without its body.
 #[tactic(auto, using(crate::proofs::Modifiers::modified_rules))]
 pub fn write_signature(page: &mut Page, x: &Signature, before: Gap) -> Result<(), NoMemory>
-    ensures { OnOk result (page.new ≡ page.old ++ row_text (signature_words x.now before)) }
+    ensures { OnOk result (page.new ≡ page.old ++ words_text (signature_words x.now before)) }
 {
     let before = write_modifiers(page, x.modifiers.as_slice(), before)?;
     page.plain(TokenKind::Func, before)?;

@@ -1,9 +1,9 @@
-//! Statements and blocks.
+//! Writes statements and blocks.
 
 ghost use Rattle.std.specs.Prelude.{◌≡◌, [], ◌∷◌, ◌++◌, map, OnOk};
 ghost use Rattle.sw_lex.specs.declared.token.TokenKind.TheVariants as TokenKindValue;
 ghost use Rattle.sw_layout.specs.declared.gap.Gap.TheVariants as GapValue;
-ghost use Rattle.sw_layout.specs.Words.{plain, row_text};
+ghost use Rattle.sw_layout.specs.Words.{plain, words_text};
 ghost use Rattle.sw_print.specs.Expressions.{perhaps};
 ghost use Rattle.sw_print.specs.Statements.{arm_words, block_words, branch_words, catch_pattern_words, catch_words, catches_words, else_ifs, lines, separated, stmt_words};
 
@@ -24,7 +24,7 @@ use sw_tree::{Branch, Catch, CatchPattern, Stmt, SwitchArm};
 #[cycle(stmt)]
 #[tactic(auto, using(crate::proofs::StmtWords::stmt_rules))]
 pub fn write_stmt(page: &mut Page, x: &Stmt, before: Gap) -> Result<(), NoMemory>
-    ensures { OnOk result (page.new ≡ page.old ++ row_text (stmt_words x.now before)) }
+    ensures { OnOk result (page.new ≡ page.old ++ words_text (stmt_words x.now before)) }
 {
     match x {
         Stmt::Local(_, binding, name, declared, value) => {
@@ -78,18 +78,18 @@ pub fn write_stmt(page: &mut Page, x: &Stmt, before: Gap) -> Result<(), NoMemory
 
 /// Writes an `if` with its block.
 #[cycle(stmt)]
-#[tactic(auto, using(crate::proofs::Rows::row_rules))]
+#[tactic(auto, using(crate::proofs::TextLemmas::text_rules))]
 fn write_branch(page: &mut Page, branch: &Branch, before: Gap) -> Result<(), NoMemory>
-    ensures { OnOk result (page.new ≡ page.old ++ row_text (branch_words branch.now before)) }
+    ensures { OnOk result (page.new ≡ page.old ++ words_text (branch_words branch.now before)) }
 {
     write_conditions(page, TokenKind::If, branch.conditions.as_slice(), before)?;
     write_block(page, branch.body.as_slice())
 }
 
-/// Writes each `if` behind an `else`.
+/// Writes each `if` after an `else`.
 #[cycle(stmt)]
 fn write_else_ifs(page: &mut Page, branches: &[Branch]) -> Result<(), NoMemory>
-    ensures { OnOk result (page.new ≡ page.old ++ row_text (else_ifs (map branch_words branches.now))) }
+    ensures { OnOk result (page.new ≡ page.old ++ words_text (else_ifs (map branch_words branches.now))) }
 {
     for branch in branches {
         page.plain(TokenKind::Else, Gap::Space)?;
@@ -98,11 +98,11 @@ fn write_else_ifs(page: &mut Page, branches: &[Branch]) -> Result<(), NoMemory>
     Ok(())
 }
 
-/// Writes a block behind its `else`.
+/// Writes a block after its `else`.
 #[cycle(stmt)]
-#[tactic(auto, using(crate::proofs::Rows::row_rules))]
+#[tactic(auto, using(crate::proofs::TextLemmas::text_rules))]
 fn write_else(page: &mut Page, body: &[Stmt]) -> Result<(), NoMemory>
-    ensures { OnOk result (page.new ≡ page.old ++ row_text (plain TokenKindValue.Else GapValue.Space ∷ block_words body.now)) }
+    ensures { OnOk result (page.new ≡ page.old ++ words_text (plain TokenKindValue.Else GapValue.Space ∷ block_words body.now)) }
 {
     page.plain(TokenKind::Else, Gap::Space)?;
     write_block(page, body)
@@ -110,9 +110,9 @@ fn write_else(page: &mut Page, body: &[Stmt]) -> Result<(), NoMemory>
 
 /// Writes an arm of a `switch`.
 #[cycle(stmt)]
-#[tactic(auto, using(crate::proofs::Rows::row_rules))]
+#[tactic(auto, using(crate::proofs::TextLemmas::text_rules))]
 fn write_arm(page: &mut Page, arm: &SwitchArm) -> Result<(), NoMemory>
-    ensures { OnOk result (page.new ≡ page.old ++ row_text (arm_words arm.now GapValue.Line)) }
+    ensures { OnOk result (page.new ≡ page.old ++ words_text (arm_words arm.now GapValue.Line)) }
 {
     write_arm_label(page, &arm.label, Gap::Line)?;
     write_statements(page, arm.body.as_slice())
@@ -121,7 +121,7 @@ fn write_arm(page: &mut Page, arm: &SwitchArm) -> Result<(), NoMemory>
 /// Writes the catches of a `do`.
 #[cycle(stmt)]
 fn write_catches(page: &mut Page, catches: &[Catch]) -> Result<(), NoMemory>
-    ensures { OnOk result (page.new ≡ page.old ++ row_text (catches_words (map catch_words catches.now))) }
+    ensures { OnOk result (page.new ≡ page.old ++ words_text (catches_words (map catch_words catches.now))) }
 {
     for catch in catches {
         write_catch(page, catch)?;
@@ -131,9 +131,9 @@ fn write_catches(page: &mut Page, catches: &[Catch]) -> Result<(), NoMemory>
 
 /// Writes a `catch` with its block.
 #[cycle(stmt)]
-#[tactic(auto, using(crate::proofs::Rows::row_rules))]
+#[tactic(auto, using(crate::proofs::TextLemmas::text_rules))]
 fn write_catch(page: &mut Page, catch: &Catch) -> Result<(), NoMemory>
-    ensures { OnOk result (page.new ≡ page.old ++ row_text (catch_words catch.now GapValue.Space)) }
+    ensures { OnOk result (page.new ≡ page.old ++ words_text (catch_words catch.now GapValue.Space)) }
 {
     page.plain(TokenKind::Catch, Gap::Space)?;
     write_caught(page, &catch.pattern)?;
@@ -142,7 +142,7 @@ fn write_catch(page: &mut Page, catch: &Catch) -> Result<(), NoMemory>
 
 /// Writes the pattern of a `catch`, where there is one.
 fn write_caught(page: &mut Page, pattern: &Option<CatchPattern>) -> Result<(), NoMemory>
-    ensures { OnOk result (page.new ≡ page.old ++ row_text (perhaps (λ pattern. catch_pattern_words pattern GapValue.Space) pattern.now)) }
+    ensures { OnOk result (page.new ≡ page.old ++ words_text (perhaps (λ pattern. catch_pattern_words pattern GapValue.Space) pattern.now)) }
 {
     match pattern {
         None => Ok(()),
@@ -152,9 +152,9 @@ fn write_caught(page: &mut Page, pattern: &Option<CatchPattern>) -> Result<(), N
 
 /// Writes statements between braces.
 #[cycle(stmt)]
-#[tactic(auto, using(crate::proofs::Rows::row_rules))]
+#[tactic(auto, using(crate::proofs::TextLemmas::text_rules))]
 pub fn write_block(page: &mut Page, body: &[Stmt]) -> Result<(), NoMemory>
-    ensures { OnOk result (page.new ≡ page.old ++ row_text (block_words body.now)) }
+    ensures { OnOk result (page.new ≡ page.old ++ words_text (block_words body.now)) }
 {
     page.plain(TokenKind::LeftBrace, Gap::Space)?;
     write_statements(page, body)?;
@@ -164,7 +164,7 @@ pub fn write_block(page: &mut Page, body: &[Stmt]) -> Result<(), NoMemory>
 /// Writes statements, of which the first has a line of its own.
 #[cycle(stmt)]
 fn write_statements(page: &mut Page, body: &[Stmt]) -> Result<(), NoMemory>
-    ensures { OnOk result (page.new ≡ page.old ++ row_text (lines (map stmt_words body.now))) }
+    ensures { OnOk result (page.new ≡ page.old ++ words_text (lines (map stmt_words body.now))) }
 {
     match body {
         [] => Ok(()),
@@ -178,11 +178,11 @@ fn write_statements(page: &mut Page, body: &[Stmt]) -> Result<(), NoMemory>
     }
 }
 
-/// Writes a statement behind another: on a line of its own, or behind `;` where it begins with `.`.
+/// Writes a statement after another: on a line of its own, or after `;` where it begins with `.`.
 #[cycle(stmt)]
-#[tactic(auto, using(crate::proofs::Rows::row_rules))]
+#[tactic(auto, using(crate::proofs::TextLemmas::text_rules))]
 fn write_separated(page: &mut Page, x: &Stmt) -> Result<(), NoMemory>
-    ensures { OnOk result (page.new ≡ page.old ++ row_text (separated (stmt_words x.now))) }
+    ensures { OnOk result (page.new ≡ page.old ++ words_text (separated (stmt_words x.now))) }
 {
     if stmt_begins_with_dot(x) {
         page.plain(TokenKind::Semicolon, Gap::Space)?;

@@ -1,7 +1,7 @@
-//! Types.
+//! Writes types.
 
 ghost use Rattle.std.specs.Prelude.{◌≡◌, ◌++◌, OnOk};
-ghost use Rattle.sw_layout.specs.Words.{row_text};
+ghost use Rattle.sw_layout.specs.Words.{words_text};
 ghost use Rattle.sw_layout.specs.declared.gap.Gap.{Gap as GapValue};
 ghost use Rattle.sw_print.specs.Expressions.{mark_gap, type_words};
 
@@ -12,7 +12,7 @@ use sw_layout::Gap;
 use sw_lex::TokenKind;
 use sw_tree::Type;
 
-/// What stands before the `?` behind a type: another `?` would be one mark with it.
+/// What stands before the `?` after a type: another `?` would be one mark with it.
 #[tactic(auto, using(crate::proofs::ExprWords::gap_rules))]
 fn mark_gap(x: &Type) -> Gap
     ensures { (before : GapValue) → result ≡ mark_gap (type_words x.now before) }
@@ -31,7 +31,7 @@ fn mark_gap(x: &Type) -> Gap
 #[cycle(types)]
 #[tactic(auto, using(crate::proofs::ExprWords::type_rules))]
 pub fn write_type(page: &mut Page, x: &Type, before: Gap) -> Result<(), NoMemory>
-    ensures { OnOk result (page.new ≡ page.old ++ row_text (type_words x.now before)) }
+    ensures { OnOk result (page.new ≡ page.old ++ words_text (type_words x.now before)) }
 {
     match x {
         Type::Name(name) => write_name(page, name, before),

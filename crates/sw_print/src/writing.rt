@@ -2,7 +2,7 @@
 
 ghost use Rattle.std.specs.Prelude.{◌≡◌, List, [], ◌++◌, map, OnOk};
 ghost use Rattle.sw_layout.specs.declared.gap.Gap.{Gap as GapValue};
-ghost use Rattle.sw_layout.specs.Words.{Word, row_text};
+ghost use Rattle.sw_layout.specs.Words.{Word, words_text};
 ghost use Rattle.sw_print.specs.Expressions.{listed, in_parens};
 ghost use Rattle.sw_print.specs.Statements.{each_line};
 
@@ -17,12 +17,12 @@ pub trait Written {
 
     /// Writes it, with this before the first of its words.
     fn write(&self, page: &mut Page, before: Gap) -> Result<(), NoMemory>
-        ensures { OnOk result (page.new ≡ page.old ++ row_text (words self.now before)) };
+        ensures { OnOk result (page.new ≡ page.old ++ words_text (words self.now before)) };
 }
 
 /// Writes items with commas between.
 pub fn write_listed<T: Written>(page: &mut Page, items: &[T]) -> Result<(), NoMemory>
-    ensures { OnOk result (page.new ≡ page.old ++ row_text (listed (map T.words items.now))) }
+    ensures { OnOk result (page.new ≡ page.old ++ words_text (listed (map T.words items.now))) }
 {
     match items {
         [] => Ok(()),
@@ -38,9 +38,9 @@ pub fn write_listed<T: Written>(page: &mut Page, items: &[T]) -> Result<(), NoMe
 }
 
 /// Writes items with commas between, in brackets.
-#[tactic(auto, using(crate::proofs::Rows::row_rules))]
+#[tactic(auto, using(crate::proofs::TextLemmas::text_rules))]
 pub fn write_in_parens<T: Written>(page: &mut Page, items: &[T]) -> Result<(), NoMemory>
-    ensures { OnOk result (page.new ≡ page.old ++ row_text (in_parens (map T.words items.now))) }
+    ensures { OnOk result (page.new ≡ page.old ++ words_text (in_parens (map T.words items.now))) }
 {
     page.plain(TokenKind::LeftParen, Gap::Space)?;
     write_listed(page, items)?;
@@ -49,7 +49,7 @@ pub fn write_in_parens<T: Written>(page: &mut Page, items: &[T]) -> Result<(), N
 
 /// Writes items, each on a line of its own.
 pub fn write_lines<T: Written>(page: &mut Page, items: &[T]) -> Result<(), NoMemory>
-    ensures { OnOk result (page.new ≡ page.old ++ row_text (each_line (map T.words items.now))) }
+    ensures { OnOk result (page.new ≡ page.old ++ words_text (each_line (map T.words items.now))) }
 {
     for item in items {
         item.write(page, Gap::Line)?;

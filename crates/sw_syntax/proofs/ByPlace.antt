@@ -10,17 +10,17 @@ use Rattle.sw_rules.proofs.Numbered.{first_at}
 use Rattle.sw_lex.specs.declared.token.Token.{Token}
 use Rattle.sw_lex.specs.Tokens.{AreInOrder}
 use Rattle.sw_syntax.specs.Tokens.{Sighted}
-use Rattle.sw_syntax.specs.Symbols.{Symbol}
-use Rattle.sw_syntax.specs.Refusals.{Breaks, BreaksBehind, Refuses, StandsAt}
+use Rattle.sw_syntax.specs.Nonterminals.{Nonterminal}
+use Rattle.sw_syntax.specs.Refusals.{Breaks, BreaksP1to6, Refuses, StandsAt}
 use Rattle.sw_syntax.specs.Finding.{IsFirstBroken, BreaksNone}
 
 -- ---- a number has one token, and tokens stand in order
 
-token_at : (tokens : List Token) (place : ℕ) (default token : Token) (rest : List Token) → drop place tokens ≡ token ∷ rest → (slice_index_or tokens place default ≡ token) × (place < length tokens)
+token_at : (tokens : List Token) (position : ℕ) (default token : Token) (rest : List Token) → drop position tokens ≡ token ∷ rest → (slice_index_or tokens position default ≡ token) × (position < length tokens)
 token_at [] zero default token rest e = absurd (cc)
-token_at [] (suc place) default token rest e = absurd (cc)
+token_at [] (suc position) default token rest e = absurd (cc)
 token_at (first ∷ tokens) zero default token rest e = (cc, omega arith)
-token_at (first ∷ tokens) (suc place) default token rest e = let h = token_at tokens place default token rest e in (h.0, omega (arith, h.1))
+token_at (first ∷ tokens) (suc position) default token rest e = let h = token_at tokens position default token rest e in (h.0, omega (arith, h.1))
 
 rises : (tokens : List Token) → AreInOrder tokens → (i j : ℕ) (a b : Span) → i < j → StandsAt tokens i a → StandsAt tokens j b → StandsBefore a b
 rises tokens ordered i j a b less (token, rest, e, p) (later, rest', e', q) =
@@ -34,7 +34,7 @@ one tokens i a b (token, rest, e, p) (other, rest', e', q) =
 
 -- ---- the rules of the grammar are of one pass
 
-of_run : (s : Symbol) (tokens : List Token) (at : ℕ) (run : List Sighted) (next : Sighted) (rule : Rule) → BreaksBehind s tokens at run next rule → rule_pass rule ≡ 2
+of_run : (s : Nonterminal) (tokens : List Token) (at : ℕ) (run : List Sighted) (next : Sighted) (rule : Rule) → BreaksP1to6 s tokens at run next rule → rule_pass rule ≡ 2
 of_run s tokens at run next P1 h = refl
 of_run s tokens at run next P2 h = refl
 of_run s tokens at run next P3 h = refl
@@ -43,15 +43,15 @@ of_run s tokens at run next P5 h = refl
 of_run s tokens at run next P6 h = refl
 of_run s tokens at run next rule h = absurd h
 
-of_grammar : (s : Symbol) (tokens : List Token) (at : ℕ) (rule : Rule) (place : ℕ) → Breaks s tokens at rule place → rule_pass rule ≡ 2
-of_grammar s tokens at rule place (run, next, longest, breaks, n) = of_run s tokens at run next rule breaks
+of_grammar : (s : Nonterminal) (tokens : List Token) (at : ℕ) (rule : Rule) (position : ℕ) → Breaks s tokens at rule position → rule_pass rule ≡ 2
+of_grammar s tokens at rule position (run, next, longest, breaks, n) = of_run s tokens at run next rule breaks
 
 -- ---- the answer
 
-pub first_by_place : (s : Symbol) (tokens : List Token) (at : ℕ) (rule : Rule) (place : ℕ) (span : Span) → AreInOrder tokens → IsFirstBroken s tokens at rule place → StandsAt tokens place span
+pub first_by_place : (s : Nonterminal) (tokens : List Token) (at : ℕ) (rule : Rule) (position : ℕ) (span : Span) → AreInOrder tokens → IsFirstBroken s tokens at rule position → StandsAt tokens position span
     → IsFirst (Refuses s tokens at) (record { rule = rule; span = span })
-first_by_place s tokens at rule place span ordered first stands =
-    first_at (Breaks s tokens at) (StandsAt tokens) (rises tokens ordered) (one tokens) 2 (of_grammar s tokens at) (record { rule = rule; span = span }) place first.0 first.1 stands
+first_by_place s tokens at rule position span ordered first stands =
+    first_at (Breaks s tokens at) (StandsAt tokens) (rises tokens ordered) (one tokens) 2 (of_grammar s tokens at) (record { rule = rule; span = span }) position first.0 first.1 stands
 
-pub none_by_place : (s : Symbol) (tokens : List Token) (at : ℕ) → BreaksNone s tokens at → RefusesNone (Refuses s tokens at)
+pub none_by_place : (s : Nonterminal) (tokens : List Token) (at : ℕ) → BreaksNone s tokens at → RefusesNone (Refuses s tokens at)
 none_by_place s tokens at none refusal h = none refusal.rule h.0 h.1

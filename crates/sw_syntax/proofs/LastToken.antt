@@ -24,22 +24,22 @@ either : (b : Bool) (x y : Class) → is_end x ≡ false → is_end y ≡ false 
 either true x y p q = p
 either false x y p q = q
 
-name : (text : Text) (behind : List Token) → is_end (class_of_name text behind) ≡ false
+name : (text : Text) (after : List Token) → is_end (class_of_name text after) ≡ false
 unfolding same_kind
-name text behind =
+name text after =
     either (is_same_text text (codes "actor")) _ _ refl (either (is_same_text text (codes "distributed")) _ _ refl (either (is_same_text text (codes "nonisolated")) _ _ refl
     (either (is_same_text text (codes "mutating")) _ _ refl (either (is_same_text text (codes "final")) _ _ refl
-    (either (is_same_text text (codes "get")) _ _ (either (is_next k.LeftBrace behind) _ _ refl refl) refl)))))
+    (either (is_same_text text (codes "get")) _ _ (either (is_next k.LeftBrace after) _ _ refl refl) refl)))))
 
-end_kind : (kind : TokenKind) (token : Token) (behind : List Token) → is_end (class_in kind token behind) ≡ true → kind ≡ k.End
+end_kind : (kind : TokenKind) (token : Token) (after : List Token) → is_end (class_in kind token after) ≡ true → kind ≡ k.End
 unfolding same_kind
-end_kind k.End token behind e = refl
-end_kind k.Name token behind e = absurd (clash _ e (name token.text behind))
-end_kind k.Else token behind e = absurd (clash _ e (either (is_next k.If behind) class.ElseIf (class.Is k.Else) refl refl))
-end_kind k.Bang token behind e = absurd (clash _ e (either token.touches class.TouchingBang (class.Is k.Bang) refl refl))
-end_kind k.Question token behind e = absurd (clash _ e (either token.touches class.TouchingQuestion _ refl (either token.after_space class.SpacedQuestion (class.Is k.Question) refl refl)))
-end_kind k.Minus token behind e = absurd (clash _ e (either (touches_next behind) (class.Is k.Minus) class.LooseMinus refl refl))
-end_kind kind token behind e = absurd (cc)
+end_kind k.End token after e = refl
+end_kind k.Name token after e = absurd (clash _ e (name token.text after))
+end_kind k.Else token after e = absurd (clash _ e (either (is_next k.If after) class.ElseIf (class.Is k.Else) refl refl))
+end_kind k.Bang token after e = absurd (clash _ e (either token.touches class.TouchingBang (class.Is k.Bang) refl refl))
+end_kind k.Question token after e = absurd (clash _ e (either token.touches class.TouchingQuestion _ refl (either token.after_space class.SpacedQuestion (class.Is k.Question) refl refl)))
+end_kind k.Minus token after e = absurd (clash _ e (either (touches_next after) (class.Is k.Minus) class.LooseMinus refl refl))
+end_kind kind token after e = absurd (cc)
 
 end_seen : (token : Token) → token.kind ≡ k.End → is k.End (seen token []).sight ≡ true
 unfolding same_kind
@@ -55,7 +55,7 @@ has_end (token ∷ []) (suc at) h l f = absurd (omega (arith, l))
 has_end (token ∷ next ∷ tokens) zero h l f = has_end (next ∷ tokens) zero h.1 (omega arith) f.1
 has_end (token ∷ next ∷ tokens) (suc at) h l f = has_end (next ∷ tokens) at h.1 (omega (arith, l)) f
 
--- nothing stands behind an end
+-- nothing follows an end
 pub last_end : (tokens : List Token) (v rest : List Sighted) (t : Sighted) → EndsOnce tokens → sighted tokens ≡ v ++ t ∷ rest → is k.End t.sight ≡ true → rest ≡ []
 last_end [] v rest t h e is_end = absurd h
 last_end (token ∷ []) [] rest t h e is_end = cc

@@ -7,22 +7,25 @@ pub mod Reached
 pub mod End
 pub mod LastToken
 pub mod Integers
-pub mod Lexed
 pub mod SightLemmas
 pub mod OpeningLemmas
-pub mod Steps
-pub mod OperatorSteps
-pub mod FormSteps
-pub mod PrimSteps
-pub mod PartSteps
-pub mod BodySteps
-pub mod StmtSteps
-pub mod IfSteps
-pub mod PatternSteps
-pub mod TypeSteps
-pub mod DeclSteps
-pub mod MemberSteps
+pub mod Equations
+pub mod OperatorEquations
+pub mod FormEquations
+pub mod PrimEquations
+pub mod PartEquations
+pub mod BodyEquations
+pub mod StmtEquations
+pub mod IfEquations
+pub mod PatternEquations
+pub mod TypeEquations
+pub mod DeclEquations
+pub mod MemberEquations
 pub mod Exits
 mod ByPlace
 mod PlaceLemmas
 mod RefusalLemmas
+mod MisplacedLemmas
+mod FromLenient
+mod ToLenient
+mod SameRules

@@ -4,7 +4,7 @@ use Rattle.sw_grammar.specs.Reading.{at_first}
 use Rattle.sw_syntax.specs.declared.class.Sight.{Sight}
 use Rattle.sw_syntax.specs.declared.decl_tests.Opening.{Opening}
 use Rattle.sw_syntax.specs.Tokens.{Sighted}
-use Rattle.sw_syntax.specs.Reading.{first_sight}
+use Rattle.sw_syntax.specs.ReadResults.{first_sight}
 use Rattle.sw_syntax.specs.DeclTests.{stands}
 
 some_same : {A : Type 0} (x y : A) → Some x ≡ Some y → x ≡ y

@@ -6,7 +6,7 @@ use Rattle.std.proofs.Math.Seq.{drop-cons}
 use Rattle.sw_lex.specs.declared.token.TokenKind.{TokenKind}
 use Rattle.sw_lex.specs.declared.token.TokenKind.TheVariants as k
 use Rattle.sw_lex.specs.declared.token.Token.{Token}
-use Rattle.sw_grammar.specs.Reading.{Out, got, bad, stuck, one, at_first}
+use Rattle.sw_grammar.specs.Reading.{Out, got, rejected, unexpected, one, at_first}
 use Rattle.sw_syntax.specs.declared.class.Class.{Class}
 use Rattle.sw_syntax.specs.declared.class.Class.TheVariants as class
 use Rattle.sw_syntax.specs.declared.class.Sight.{Sight}
@@ -14,16 +14,15 @@ use Rattle.sw_syntax.specs.declared.class.Test.{Test}
 use Rattle.sw_syntax.specs.declared.class.Test.TheVariants as test
 use Rattle.sw_syntax.specs.Tokens.{Sighted, Face, same_kind, class_in, class_of_name, is_next, touches_next, sighted, seen}
 use Rattle.sw_syntax.specs.Sights.{passes, token_face, first_class}
-use Rattle.sw_syntax.specs.Broken.{behind_break, broken_at, broken_if}
-use Rattle.sw_syntax.specs.Answering.{Takes}
-use Rattle.sw_syntax.specs.Reading.{first_sight, IntegersFit}
+use Rattle.sw_syntax.specs.Broken.{after_break, broken_at, broken_if}
+use Rattle.sw_syntax.specs.ReadResults.{first_sight}
 use Rattle.sw_syntax.specs.Tests.{is}
-use Rattle.sw_lex.specs.Rules.{number}
+use Rattle.sw_syntax.proofs.Integers.{integer_kind, kind_integer}
 
 next_place : (at : ℕ) → suc at ≡ at + 1
 next_place at = omega arith
 
-look_same : (at : ℕ) (ts : List Token) (d : Token) → at < length ts → drop at (broken_at at ts) ≡ behind_break (slice_index_or ts at d) ∷ drop (suc at) (broken_at at ts)
+look_same : (at : ℕ) (ts : List Token) (d : Token) → at < length ts → drop at (broken_at at ts) ≡ after_break (slice_index_or ts at d) ∷ drop (suc at) (broken_at at ts)
 look_same at [] d l = absurd (omega (arith, l))
 look_same zero (t ∷ ts) d l = refl
 look_same (suc at) (t ∷ ts) d l = look_same at ts d (omega (arith, l))
@@ -39,10 +38,10 @@ look_suc : (b at : ℕ) (ts : List Token) (d : Token) → at < length ts → dro
 look_suc b at ts d l = go (nat_eq at b) refl
   where
     go : (x : Bool) → nat_eq at b ≡ x → drop at (broken_at b ts) ≡ broken_if x (slice_index_or ts at d) ∷ drop (suc at) (broken_at b ts)
-    go true e = subst (λ b. drop at (broken_at b ts) ≡ behind_break (slice_index_or ts at d) ∷ drop (suc at) (broken_at b ts)) (eqb-true at b e) (look_same at ts d l)
+    go true e = subst (λ b. drop at (broken_at b ts) ≡ after_break (slice_index_or ts at d) ∷ drop (suc at) (broken_at b ts)) (eqb-true at b e) (look_same at ts d l)
     go false e = look_other b at ts d (eqb-false at b e) l
 
--- the token at a place, and those behind it
+-- the token at a place, and those after it
 pub look : (b at : ℕ) (ts : List Token) (d : Token) → at < length ts → drop at (broken_at b ts) ≡ broken_if (nat_eq at b) (slice_index_or ts at d) ∷ drop (at + 1) (broken_at b ts)
 look b at ts d l = subst (λ n. drop at (broken_at b ts) ≡ broken_if (nat_eq at b) (slice_index_or ts at d) ∷ drop n (broken_at b ts)) (next_place at) (look_suc b at ts d l)
 
@@ -254,7 +253,7 @@ face_broken false t = refl
 one_taken : (f : Sight → Bool) (left : ℕ) (t : Sighted) (ts : List Sighted) → f t.sight ≡ true → one f left (t ∷ ts) ≡ got t.face left ts
 one_taken f left t ts e = picked (f t.sight) e
   where
-    picked : (x : Bool) → x ≡ true → cond x (got t.face left ts) (bad stuck (t ∷ ts)) ≡ got t.face left ts
+    picked : (x : Bool) → x ≡ true → cond x (got t.face left ts) (rejected unexpected (t ∷ ts)) ≡ got t.face left ts
     picked true e = refl
     picked false e = absurd cc
 
@@ -267,16 +266,11 @@ taken f left b at ts d l h =
     ap (λ r. one f left r) e ∙ one_taken f left (seen t rest) (sighted rest) (subst (λ r. at_first f r ≡ true) e h)
     ∙ ap (λ x. got x left (sighted rest)) (face_broken (nat_eq at b) (slice_index_or ts at d)) ∙ ap (λ r. got (token_face (slice_index_or ts at d)) left r) (sym (drop_sighted (at + 1) (broken_at b ts)))
 
--- ---- integers that fit
+-- ---- a token that is seen as an integer
 
-pub fits_drop : (at : ℕ) (ts : List Sighted) → IntegersFit ts → IntegersFit (drop at ts)
-fits_drop zero ts h = h
-fits_drop (suc at) [] h = tt
-fits_drop (suc at) (t ∷ ts) h = fits_drop at ts h.1
-
-got_same : (x y : Face) (c c' : ℕ) (r r' : List Sighted) → ◌≡◌ {A = Out Sighted Face} (got x c r) (got y c' r') → x ≡ y
-got_same x y c c' r r' e = cc
-
-pub fits_taken : (ts : List Sighted) (x : Face) (r : List Sighted) → IntegersFit ts → at_first (is k.Integer) ts ≡ true → Takes (is k.Integer) ts x r → number 0 x.text ≤ 9223372036854775807
-fits_taken [] x r h e takes = absurd cc
-fits_taken (t ∷ ts) x r h e takes = subst (λ (x : Face). number 0 x.text ≤ 9223372036854775807) (got_same t.face x 0 0 ts r (sym (one_taken (is k.Integer) 0 t ts e) ∙ takes 0)) (h.0 e)
+pub integer_at : (b at : ℕ) (ts : List Token) (d : Token) → at < length ts → at_first (is k.Integer) (drop at (sighted (broken_at b ts))) ≡ true → (slice_index_or ts at d).kind ≡ k.Integer
+integer_at b at ts d l h =
+    let rest : List Token = drop (at + 1) (broken_at b ts) in
+    let t : Token = broken_if (nat_eq at b) (slice_index_or ts at d) in
+    let e : drop at (sighted (broken_at b ts)) ≡ sighted (t ∷ rest) = drop_sighted at (broken_at b ts) ∙ ap (λ r. sighted r) (look b at ts d l) in
+    sym (same_kind_broken (nat_eq at b) (slice_index_or ts at d)) ∙ kind_integer t.kind (sym (integer_kind t.kind t rest) ∙ subst (λ r. at_first (is k.Integer) r ≡ true) e h)

@@ -3,8 +3,8 @@ use Rattle.std.specs.Prelude.{Bool, true, false, ℕ, zero, suc, List, [], ◌�
 use Rattle.sw_lex.specs.declared.token.Token.{Token}
 
 -- the token, with a line break before it
-abbrev pub behind_break : Token → Token
-behind_break token = record {
+abbrev pub after_break : Token → Token
+after_break token = record {
   kind = token.kind;
   text = token.text;
   span = token.span;
@@ -16,10 +16,10 @@ behind_break token = record {
 -- the tokens, with a line break before the one at this place
 abbrev pub broken_at : ℕ → List Token → List Token
 broken_at at [] = []
-broken_at zero (token ∷ tokens) = behind_break token ∷ tokens
+broken_at zero (token ∷ tokens) = after_break token ∷ tokens
 broken_at (suc at) (token ∷ tokens) = token ∷ broken_at at tokens
 
 -- the token, with a line break before it or as it is
 abbrev pub broken_if : Bool → Token → Token
-broken_if true token = behind_break token
+broken_if true token = after_break token
 broken_if false token = token

@@ -5,9 +5,9 @@ use Rattle.sw_syntax.specs.declared.class.Sight.{Sight}
 use Rattle.sw_syntax.specs.declared.decl_tests.Opening.{Opening}
 use Rattle.sw_syntax.specs.declared.decl_tests.Opening.TheVariants as opening
 use Rattle.sw_syntax.specs.Tests.{is, is_modifier, is_actor, is_get, is_getter, is_else, is_else_if, is_any_else, is_first, is_assignment, is_range, is_other_label, is_payload_label, is_bare_type}
-use Rattle.sw_syntax.specs.Symbols.{Decls, Members, Items, Requirements, Open, Closed, Param, Payload, Pat, Cpat}
+use Rattle.sw_syntax.specs.Nonterminals.{Decls, Members, EnumItems, Requirements, Open, Closed, Param, Payload, Pattern, Caught}
 use Rattle.sw_syntax.specs.Grammar.{begins_below}
-use Rattle.sw_syntax.specs.Tables.{heads, starts_item, starts_stmt_of, starts_stmt, starts_arm}
+use Rattle.sw_syntax.specs.Tables.{first_table, starts_item, starts_stmt_of, starts_stmt, starts_arm}
 use Rattle.sw_syntax.specs.Bodies.{is_returned}
 
 abbrev pub starts_bind : Sight → Bool
@@ -30,7 +30,7 @@ stands opening.PayloadLabel = is_payload_label
 stands opening.BareType = is_bare_type
 stands opening.Decl = starts_item Decls
 stands opening.Member = starts_item Members
-stands opening.EnumItem = starts_item Items
+stands opening.EnumItem = starts_item EnumItems
 stands opening.Requirement = starts_item Requirements
 stands opening.OpenStatement = starts_stmt_of Open
 stands opening.ClosedStatement = starts_stmt_of Closed
@@ -39,8 +39,8 @@ stands opening.Arm = starts_arm
 stands opening.Returned = is_returned
 stands opening.BelowOpen = begins_below Open
 stands opening.BelowClosed = begins_below Closed
-stands opening.Parameter = heads Param
-stands opening.Payload = heads Payload
-stands opening.Pattern = heads Pat
-stands opening.CatchPattern = heads Cpat
+stands opening.Parameter = first_table Param
+stands opening.Payload = first_table Payload
+stands opening.Pattern = first_table Pattern
+stands opening.CatchPattern = first_table Caught
 stands opening.Bind = starts_bind

@@ -6,7 +6,7 @@ use Rattle.sw_lex.specs.Bytes.{Text}
 use Rattle.sw_lex.specs.Tables.{is_same_text}
 use Rattle.sw_syntax.specs.Tokens.{Face}
 use Rattle.sw_syntax.specs.Values.{name_of, assign_of, range_of}
-use Rattle.sw_syntax.specs.Symbols.{Body, Branches}
+use Rattle.sw_syntax.specs.Nonterminals.{Body, Branches}
 use Rattle.sw_tree.specs.declared.expr.Name.{Name}
 use Rattle.sw_tree.specs.declared.expr.Binding.TheVariants as binding
 use Rattle.sw_tree.specs.declared.expr.Expr.{Expr}
@@ -51,11 +51,11 @@ abbrev pub assigned : Expr → Option (Face × Expr) → Stmt
 assigned x None = s.Expr x
 assigned place (Some x) = s.Assign place (assign_of x.0.kind) x.0.span x.1
 
--- the second end of a range, behind its mark
+-- the second end of a range, after its mark
 abbrev pub range_end : Face → Expr → RangeEnd
 range_end mark value = record { span = mark.span; operator = range_of mark.kind; value = value }
 
--- what stands behind an `else`: another `if`, or a block
+-- what follows an `else`: another `if`, or a block
 abbrev pub else_if : Branches → Branch → Branches
 else_if rest first = (first, (rest.0 ∷ rest.1.0, rest.1.1))
 
@@ -100,7 +100,7 @@ initial_var initial declared = stored_var (Some declared) (Some initial)
 abbrev pub computed_var : Accessor → TypeTree → Named Member
 computed_var getter declared modifiers name = m.Computed (record { modifiers = modifiers; name = name; declared = declared; accessor = getter })
 
--- a `var` with a type, and what stands behind the type
+-- a `var` with a type, and what follows the type
 abbrev pub typed_var : TypeTree → Option (TypeTree → Named Member) → Named Member
 typed_var declared None = stored_var (Some declared) None
 typed_var declared (Some rest) = rest declared

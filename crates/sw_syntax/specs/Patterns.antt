@@ -1,4 +1,4 @@
--- What is read of a pattern behind its first parts, for a reader that goes on from there.
+-- What is read of a pattern after its first parts, for a reader that goes on from there.
 use Rattle.std.specs.Prelude.{ℕ, Bool, List, ◌++◌, Option}
 use Rattle.sw_base.specs.declared.ids.Span.{Span}
 use Rattle.sw_lex.specs.declared.token.TokenKind.TheVariants as k

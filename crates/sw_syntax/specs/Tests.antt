@@ -1,7 +1,8 @@
--- The tests of a token: which tokens a mark of the grammar takes.
+-- The tests of a token: which tokens a terminal takes.
 use Rattle.std.specs.Prelude.{Bool, true, false, not, ◌||◌, ◌&&◌, ℕ, zero, suc}
 use Rattle.sw_lex.specs.declared.token.TokenKind.{TokenKind}
 use Rattle.sw_lex.specs.declared.token.TokenKind.TheVariants as k
+pub use Rattle.sw_lex.specs.Tables.{is_reserved_kind}
 use Rattle.sw_syntax.specs.declared.class.Sight.{Sight}
 use Rattle.sw_syntax.specs.declared.class.Class.{Class}
 use Rattle.sw_syntax.specs.declared.class.Class.TheVariants.{Is, Actor, Distributed, Nonisolated, Mutating, Final, Get, GetBlock, ElseIf, TouchingBang, TouchingQuestion, SpacedQuestion, LooseMinus}
@@ -48,56 +49,6 @@ is_modifier_class Distributed = true
 is_modifier_class Nonisolated = true
 is_modifier_class Mutating = true
 is_modifier_class class = false
-
--- a reserved word
-abbrev pub is_reserved_kind : TokenKind → Bool
-is_reserved_kind k.Any = true
-is_reserved_kind k.As = true
-is_reserved_kind k.Async = true
-is_reserved_kind k.Await = true
-is_reserved_kind k.Break = true
-is_reserved_kind k.Case = true
-is_reserved_kind k.Catch = true
-is_reserved_kind k.Continue = true
-is_reserved_kind k.Default = true
-is_reserved_kind k.Defer = true
-is_reserved_kind k.Do = true
-is_reserved_kind k.Else = true
-is_reserved_kind k.Enum = true
-is_reserved_kind k.Extension = true
-is_reserved_kind k.False = true
-is_reserved_kind k.Fileprivate = true
-is_reserved_kind k.For = true
-is_reserved_kind k.Func = true
-is_reserved_kind k.Guard = true
-is_reserved_kind k.If = true
-is_reserved_kind k.Import = true
-is_reserved_kind k.In = true
-is_reserved_kind k.Init = true
-is_reserved_kind k.Inout = true
-is_reserved_kind k.Internal = true
-is_reserved_kind k.Is = true
-is_reserved_kind k.Let = true
-is_reserved_kind k.Nil = true
-is_reserved_kind k.Private = true
-is_reserved_kind k.Protocol = true
-is_reserved_kind k.Public = true
-is_reserved_kind k.Repeat = true
-is_reserved_kind k.Return = true
-is_reserved_kind k.Self_ = true
-is_reserved_kind k.Static = true
-is_reserved_kind k.Struct = true
-is_reserved_kind k.Super = true
-is_reserved_kind k.Switch = true
-is_reserved_kind k.Throw = true
-is_reserved_kind k.Throws = true
-is_reserved_kind k.True = true
-is_reserved_kind k.Try = true
-is_reserved_kind k.Typealias = true
-is_reserved_kind k.Var = true
-is_reserved_kind k.Where = true
-is_reserved_kind k.While = true
-is_reserved_kind kind = false
 
 abbrev pub is_reserved_class : Class → Bool
 is_reserved_class (Is kind) = is_reserved_kind kind
@@ -218,7 +169,7 @@ is_sign t = is_minus_class t.class || is_bang_class t.class
 abbrev pub is_effect : Sight → Bool
 is_effect t = is k.Try t || is k.Await t
 
--- at the start of a line a binary `-` has white space or a comment behind it
+-- at the start of a line a binary `-` has white space or a comment after it
 abbrev pub is_binary_minus : Sight → Bool
 is_binary_minus t = is_minus_class t.class && (not t.is_first || is_loose_minus_class t.class)
 
@@ -226,7 +177,7 @@ is_binary_minus t = is_minus_class t.class && (not t.is_first || is_loose_minus_
 abbrev pub goes_on_below : Sight → Bool
 goes_on_below t = is k.Dot t || is_loose_minus_class t.class
 
--- ---- binary marks, from weak to strong
+-- ---- binary operators, from weak to strong: strength 0 is `||`, 1 `&&`, 2 the comparisons, 3 `??`, 4 `+` and `-`, 5 the rest
 
 abbrev pub is_comparison : Sight → Bool
 is_comparison t = is k.EqualEqual t || (is k.NotEqual t || (is k.Less t || (is k.LessEqual t || (is k.Greater t || is k.GreaterEqual t))))
@@ -251,11 +202,11 @@ is_range t = is k.HalfOpenRange t || is k.Ellipsis t
 abbrev pub starts_literal : Sight → Bool
 starts_literal t = is k.Integer t || (is_bool t || (is k.StringWhole t || is k.StringStart t))
 
-abbrev pub starts_prim : Sight → Bool
-starts_prim t = starts_literal t || (is k.Nil t || (is_name t || (is k.Self_ t || (is k.Dot t || (is k.LeftParen t || is k.LeftBracket t)))))
+abbrev pub starts_primary : Sight → Bool
+starts_primary t = starts_literal t || (is k.Nil t || (is_name t || (is k.Self_ t || (is k.Dot t || (is k.LeftParen t || is k.LeftBracket t)))))
 
 abbrev pub starts_operand : Sight → Bool
-starts_operand t = is_sign t || starts_prim t
+starts_operand t = is_sign t || starts_primary t
 
 abbrev pub starts_expr : Sight → Bool
 starts_expr t = is k.Try t || (is k.Await t || starts_operand t)

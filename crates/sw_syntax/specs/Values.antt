@@ -45,6 +45,8 @@ is_some (Some x) = true
 abbrev pub name_of : Face → Name
 name_of f = record { text = f.text; span = f.span }
 
+-- Each is of a token that passes the test of its terminal; the last case is the one kind that is left.
+
 abbrev pub binding_of : TokenKind → Binding
 binding_of k.Let = binding.Let
 binding_of kind = binding.Var
@@ -87,7 +89,7 @@ bool_of kind = false
 
 -- ---- expressions
 
--- the expressions of a string, each with the text behind it
+-- the expressions of a string, each with the text after it
 abbrev pub pieces_of : Expr → List (Face × Expr) → Face → List StringPiece
 pieces_of x [] last = record { value = x; text = last.text } ∷ []
 pieces_of x (piece ∷ pieces) last = record { value = x; text = piece.0.text } ∷ pieces_of piece.1 pieces last
@@ -95,7 +97,7 @@ pieces_of x (piece ∷ pieces) last = record { value = x; text = piece.0.text } 
 abbrev pub integer_of : Face → Literal
 integer_of f = literal.Integer (pos (number 0 f.text))
 
--- operands behind marks, taken to the left
+-- operands after marks, taken to the left
 abbrev pub to_left : Expr → List (Face × Expr) → Expr
 to_left left [] = left
 to_left left (x ∷ xs) = to_left (e.Binary (binary_of x.0.kind) x.0.span (left, x.1)) xs
@@ -124,15 +126,15 @@ tried (Some (at, false)) x = e.Try try_form.Plain at x
 tried (Some (at, true)) x = e.Try try_form.Optional at x
 
 -- what ends in a name, a member or an index
-abbrev pub is_place_layer : {A B C D : Type 0} → Expr-F A B C D → Bool
-is_place_layer (Expr-F.Name name) = true
-is_place_layer (Expr-F.Implicit at name) = true
-is_place_layer (Expr-F.Member base name) = true
-is_place_layer (Expr-F.Index base index) = true
-is_place_layer layer = false
+abbrev pub is_target_layer : {A B C D : Type 0} → Expr-F A B C D → Bool
+is_target_layer (Expr-F.Name name) = true
+is_target_layer (Expr-F.Implicit at name) = true
+is_target_layer (Expr-F.Member base name) = true
+is_target_layer (Expr-F.Index base index) = true
+is_target_layer layer = false
 
-abbrev pub is_place : Expr → Bool
-is_place x = is_place_layer (out-Expr x)
+abbrev pub is_target : Expr → Bool
+is_target x = is_target_layer (out-Expr x)
 
 -- ---- types
 

@@ -4,16 +4,8 @@ ghost use Rattle.std.specs.Prelude.{◌≡◌};
 ghost use Rattle.sw_syntax.specs.Sights.{passes, starts_argument};
 ghost use Rattle.sw_syntax.specs.Tests as spec;
 ghost use Rattle.sw_syntax.specs.Tables as table;
-ghost use Rattle.sw_syntax.specs.Tokens as token;
 
-use sw_lex::TokenKind;
-
-/// Tells whether two kinds are one.
-pub fn same_kind(a: TokenKind, b: TokenKind) -> bool
-    ensures { result ≡ token.same_kind a b }
-{
-    a == b
-}
+use sw_lex::{TokenKind, same_kind};
 
 /// What a token is: its kind, and more than that where its text or a neighbour makes a difference.
 #[derive(Clone, Copy, Debug, PartialEq, Eq)]
@@ -32,17 +24,17 @@ pub enum Class {
     Final,
     /// The name `get`.
     Get,
-    /// The name `get` with `{` behind it.
+    /// The name `get` with `{` after it.
     GetBlock,
-    /// `else` with `if` behind it.
+    /// `else` with `if` after it.
     ElseIf,
     /// `!` with nothing between it and the token before it.
     TouchingBang,
     /// `?` with nothing between it and the token before it.
     TouchingQuestion,
-    /// `?` behind white space.
+    /// `?` after white space.
     SpacedQuestion,
-    /// `-` with white space or a comment behind it.
+    /// `-` with white space or a comment after it.
     LooseMinus,
 }
 
@@ -75,15 +67,15 @@ pub enum Test {
     Call,
     /// `[` of an index.
     Index,
-    /// `!` behind an expression.
+    /// `!` after an expression.
     Force,
-    /// Any of what may follow a prim.
-    Form,
+    /// Any of what may follow a primary.
+    PostfixForm,
     /// `?` of a type or of `try?`.
     JoinedQuestion,
     /// `?` of a ternary.
     Ternary,
-    /// A binary mark of this strength, from 0 to 5.
+    /// A binary operator of this strength, from 0 to 5.
     Binary(u8),
     /// A label of an argument.
     Label,
@@ -91,7 +83,7 @@ pub enum Test {
     Unlabelled,
     /// What a literal begins with.
     Literal,
-    /// What an operand of a binary mark begins with.
+    /// What an operand of a binary operator begins with.
     Operand,
     /// What an expression begins with.
     Expr,
@@ -129,7 +121,7 @@ impl Class {
         ensures { result ≡ spec.is_reserved_class self }
     {
         match self {
-            Class::Is(kind) => is_reserved(kind),
+            Class::Is(kind) => kind.is_reserved(),
             Class::ElseIf => true,
             _ => false,
         }
@@ -189,61 +181,6 @@ impl Class {
             Class::SpacedQuestion => true,
             _ => false,
         }
-    }
-}
-
-/// Tells whether a kind is that of a reserved word.
-fn is_reserved(kind: TokenKind) -> bool
-    ensures { result ≡ spec.is_reserved_kind kind }
-{
-    match kind {
-        TokenKind::Any
-        | TokenKind::As
-        | TokenKind::Async
-        | TokenKind::Await
-        | TokenKind::Break
-        | TokenKind::Case
-        | TokenKind::Catch
-        | TokenKind::Continue
-        | TokenKind::Default
-        | TokenKind::Defer
-        | TokenKind::Do
-        | TokenKind::Else
-        | TokenKind::Enum
-        | TokenKind::Extension
-        | TokenKind::False
-        | TokenKind::Fileprivate
-        | TokenKind::For
-        | TokenKind::Func
-        | TokenKind::Guard
-        | TokenKind::If
-        | TokenKind::Import
-        | TokenKind::In
-        | TokenKind::Init
-        | TokenKind::Inout
-        | TokenKind::Internal
-        | TokenKind::Is
-        | TokenKind::Let
-        | TokenKind::Nil
-        | TokenKind::Private
-        | TokenKind::Protocol
-        | TokenKind::Public
-        | TokenKind::Repeat
-        | TokenKind::Return
-        | TokenKind::Self_
-        | TokenKind::Static
-        | TokenKind::Struct
-        | TokenKind::Super
-        | TokenKind::Switch
-        | TokenKind::Throw
-        | TokenKind::Throws
-        | TokenKind::True
-        | TokenKind::Try
-        | TokenKind::Typealias
-        | TokenKind::Var
-        | TokenKind::Where
-        | TokenKind::While => true,
-        _ => false,
     }
 }
 
@@ -341,8 +278,8 @@ impl Sight {
             || self.is(TokenKind::StringStart)
     }
 
-    fn starts_prim(self) -> bool
-        ensures { result ≡ spec.starts_prim self }
+    fn starts_primary(self) -> bool
+        ensures { result ≡ spec.starts_primary self }
     {
         self.starts_literal()
             || self.is(TokenKind::Nil)
@@ -356,7 +293,7 @@ impl Sight {
     fn starts_operand(self) -> bool
         ensures { result ≡ spec.starts_operand self }
     {
-        self.is_sign() || self.starts_prim()
+        self.is_sign() || self.starts_primary()
     }
 
     pub(crate) fn starts_expr(self) -> bool
@@ -398,7 +335,7 @@ impl Sight {
             Test::Call => self.is_call(),
             Test::Index => self.is_index(),
             Test::Force => self.is_force(),
-            Test::Form => self.is_form(),
+            Test::PostfixForm => self.is_form(),
             Test::JoinedQuestion => self.class.is_touching_question(),
             Test::Ternary => self.class.is_spaced_question(),
             Test::Binary(strength) => self.is_binary(strength),

@@ -5,13 +5,13 @@ ghost use Rattle.sw_grammar.specs.Reading.{at_first, one};
 ghost use Rattle.sw_syntax.specs.DeclTests.{stands, starts_bind};
 ghost use Rattle.sw_syntax.specs.Bodies.{is_returned};
 ghost use Rattle.sw_syntax.specs.Grammar.{begins_below};
-ghost use Rattle.sw_syntax.specs.Reading.{Gives, Moves, Inside, met};
-ghost use Rattle.sw_syntax.specs.Symbols as symbol;
+ghost use Rattle.sw_syntax.specs.ReadResults.{Gives, Moves, Inside, met};
+ghost use Rattle.sw_syntax.specs.Nonterminals as nonterminal;
 ghost use Rattle.sw_syntax.specs.Tables as table;
 ghost use Rattle.sw_syntax.specs.Tests as spec;
 
 use crate::class::{Class, Sight};
-use crate::source::{Source, Stop};
+use crate::view::{Stop, TokenView};
 use sw_lex::{TokenKind, TokenRef};
 
 /// A test of a token that statements and declarations make.
@@ -61,9 +61,9 @@ pub enum Opening {
     Arm,
     /// What the expression of a `return` begins with.
     Returned,
-    /// The first token of a line, behind a statement that ends in an expression.
+    /// The first token of a line, after a statement that ends in an expression.
     BelowOpen,
-    /// The first token of a line, behind any other statement.
+    /// The first token of a line, after any other statement.
     BelowClosed,
     /// What a parameter begins with.
     Parameter,
@@ -182,7 +182,7 @@ fn is_other_label(sight: Sight) -> bool
 }
 
 fn starts_decl(sight: Sight) -> bool
-    ensures { result ≡ table.starts_item symbol.Decls sight }
+    ensures { result ≡ table.starts_item nonterminal.Decls sight }
 {
     sight.is(TokenKind::Import)
         || sight.is(TokenKind::Typealias)
@@ -195,7 +195,7 @@ fn starts_decl(sight: Sight) -> bool
 }
 
 fn starts_member(sight: Sight) -> bool
-    ensures { result ≡ table.starts_item symbol.Members sight }
+    ensures { result ≡ table.starts_item nonterminal.Members sight }
 {
     sight.is(TokenKind::Typealias)
         || is_modifier(sight.class)
@@ -206,19 +206,19 @@ fn starts_member(sight: Sight) -> bool
 }
 
 fn starts_enum_item(sight: Sight) -> bool
-    ensures { result ≡ table.starts_item symbol.Items sight }
+    ensures { result ≡ table.starts_item nonterminal.EnumItems sight }
 {
     sight.is(TokenKind::Case) || starts_member(sight)
 }
 
 fn starts_requirement(sight: Sight) -> bool
-    ensures { result ≡ table.starts_item symbol.Requirements sight }
+    ensures { result ≡ table.starts_item nonterminal.Requirements sight }
 {
     sight.is(TokenKind::Var) || is_modifier(sight.class) || sight.is(TokenKind::Func)
 }
 
 fn starts_open(sight: Sight) -> bool
-    ensures { result ≡ table.starts_stmt_of symbol.Open sight }
+    ensures { result ≡ table.starts_stmt_of nonterminal.Open sight }
 {
     sight.is_let_or_var()
         || sight.starts_expr()
@@ -227,7 +227,7 @@ fn starts_open(sight: Sight) -> bool
 }
 
 fn starts_closed(sight: Sight) -> bool
-    ensures { result ≡ table.starts_stmt_of symbol.Closed sight }
+    ensures { result ≡ table.starts_stmt_of nonterminal.Closed sight }
 {
     sight.is(TokenKind::If)
         || sight.is(TokenKind::Guard)
@@ -258,25 +258,25 @@ fn is_returned(sight: Sight) -> bool
 }
 
 fn is_below_open(sight: Sight) -> bool
-    ensures { result ≡ begins_below symbol.Open sight }
+    ensures { result ≡ begins_below nonterminal.Open sight }
 {
     sight.is_first && !goes_on_below(sight)
 }
 
 fn starts_parameter(sight: Sight) -> bool
-    ensures { result ≡ table.heads symbol.Param sight }
+    ensures { result ≡ table.first_table nonterminal.Param sight }
 {
     sight.class.is_name() || is_other_label(sight)
 }
 
 fn starts_payload(sight: Sight) -> bool
-    ensures { result ≡ table.heads symbol.Payload sight }
+    ensures { result ≡ table.first_table nonterminal.Payload sight }
 {
     is_payload_label(sight) || starts_type(sight)
 }
 
 fn starts_pattern(sight: Sight) -> bool
-    ensures { result ≡ table.heads symbol.Pat sight }
+    ensures { result ≡ table.first_table nonterminal.Pattern sight }
 {
     sight.is(TokenKind::Underscore)
         || sight.starts_literal()
@@ -286,7 +286,7 @@ fn starts_pattern(sight: Sight) -> bool
 }
 
 fn starts_catch_pattern(sight: Sight) -> bool
-    ensures { result ≡ table.heads symbol.Cpat sight }
+    ensures { result ≡ table.first_table nonterminal.Caught sight }
 {
     sight.is(TokenKind::Let) || sight.class.is_name()
 }
@@ -333,30 +333,30 @@ fn passes(sight: Sight, test: Opening) -> bool
     }
 }
 
-/// Tells whether the token at this place passes a test of statements and declarations. At the end none does.
-pub fn stands(source: &Source, at: usize, test: Opening) -> bool
-    ensures value { result ≡ at_first (stands test) (drop at source.now) }
-    ensures within { result ≡ true → at < length source.now }
+/// Tells whether the token at this position passes a test of statements and declarations. At the end none does.
+pub fn stands(view: &TokenView, at: usize, test: Opening) -> bool
+    ensures value { result ≡ at_first (stands test) (drop at view.now) }
+    ensures within { result ≡ true → at < length view.now }
 {
-    match source.sight(at) {
+    match view.sight(at) {
         Some(sight) => passes(sight, test),
         None => false,
     }
 }
 
-/// The token at this place, if it passes a test of statements and declarations, and the place after it.
+/// The token at this position, if it passes a test of statements and declarations, and the position after it.
 pub fn expect_opening<'a>(
-    source: &Source<'a>,
+    view: &TokenView<'a>,
     at: usize,
     test: Opening,
 ) -> Result<(TokenRef<'a>, usize), Stop>
-    ensures gives { (left : ℕ) → Gives source.now (met left result) (one (stands test) left (drop at source.now)) }
+    ensures gives { (left : ℕ) → Gives view.now (met left result) (one (stands test) left (drop at view.now)) }
     ensures moves { Moves at (met 0 result) }
-    ensures inside { Inside (length source.now) (met 0 result) }
+    ensures inside { Inside (length view.now) (met 0 result) }
 {
-    if stands(source, at, test) {
-        Ok(source.take(at))
+    if stands(view, at, test) {
+        Ok(view.take(at))
     } else {
-        Err(Stop::Refused(at, false))
+        Err(Stop::Refused { at, over: false })
     }
 }

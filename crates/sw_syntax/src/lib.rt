@@ -1,10 +1,10 @@
 //! The grammar of sources: a table of productions over the tokens of a source, whose values are syntax trees.
 //!
 //! `specs/Grammar` is the table. `specs/Tokens` says what the grammar sees of a token, `specs/Tests` which
-//! tokens a mark of the grammar takes, `specs/Symbols` what each symbol's texts stand for, `specs/Values`
-//! how a tree is made of its parts, and `specs/Tables` what each symbol begins and goes on with.
+//! tokens a terminal takes, `specs/Nonterminals` what the sentences of each nonterminal stand for, `specs/Values`
+//! how a tree is made of its parts, and `specs/Tables` the sets first, nullable and follow-last of each.
 //!
-//! A [`Reader`] reads the texts of one symbol. At most three of its readings, one of them with a line break put
+//! A [`Reader`] reads the sentences of one nonterminal. At most three of its readings, one of them with a line break put
 //! before a token and one by the lenient grammar, tell which of the rules `P1` to `P6` is broken first, and where.
 #![tactic(auto)]
 
@@ -14,12 +14,12 @@ mod decl_tests;
 mod laws;
 mod lists;
 mod reader;
-mod source;
+mod view;
 
-pub use broken::{refused_at, unbroken_behind};
-pub use class::{Class, Sight, Test, same_kind};
+pub use broken::{refused_at, unbroken_after};
+pub use class::{Class, Sight, Test};
 pub use decl_tests::{Opening, expect_opening, stands};
-pub use laws::{lexed_integers_fit, one_tree, readings_answer};
+pub use laws::{one_tree, readings_answer};
 pub use lists::trimmed;
-pub use reader::{ROOM, Reader};
-pub use source::{Room, Source, Stop};
+pub use reader::{Reader, SOURCE_BUDGET};
+pub use view::{Budget, Read, Stop, TokenView};

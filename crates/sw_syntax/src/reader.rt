@@ -1,26 +1,26 @@
-//! What reads the texts of a symbol.
+//! What reads the sentences of a nonterminal.
 
 ghost use Rattle.std.specs.Prelude.{◌≤◌, length};
 ghost use Rattle.sw_syntax.specs.Reader.{Ends};
-ghost use Rattle.sw_syntax.specs.Symbols.{Symbol};
+ghost use Rattle.sw_syntax.specs.Nonterminals.{Nonterminal};
 
-use crate::source::{Room, Source, Stop};
+use crate::view::{Budget, Stop, TokenView};
 use std::alloc::Global;
 
-/// The room of a source.
-pub const ROOM: Room = Room {
+/// The budget of a source.
+pub const SOURCE_BUDGET: Budget = Budget {
     brackets: 64,
     left: 100,
     limit: 100,
 };
 
-/// Reads the texts of one symbol of the grammar, for where they end alone.
+/// Reads the sentences of one nonterminal of the grammar, for where they end alone.
 pub trait Reader {
-    /// The symbol.
-    ghost symbol: { Symbol };
+    /// The nonterminal.
+    ghost nonterminal: { Nonterminal };
 
-    /// The place behind the text that stands at this one, in the room of a source.
-    fn end(alloc: Global, source: &Source, lenient: bool, at: usize) -> Result<usize, Stop>
-        requires { at ≤ length source.now }
-        ensures { Ends lenient symbol source.now at result };
+    /// The position after the sentence that stands at this one, within the budget of a source.
+    fn end(alloc: Global, view: &TokenView, lenient: bool, at: usize) -> Result<usize, Stop>
+        requires { at ≤ length view.now }
+        ensures { Ends lenient nonterminal view.now at result };
 }

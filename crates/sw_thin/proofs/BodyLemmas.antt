@@ -1,6 +1,6 @@
 -- The statements of thin bodies, the first and then the others.
 use Rattle.std.proofs.Common.{◌≡◌, ℕ, ◌+◌, List, [], ◌∷◌, ◌++◌, refl, sym, ap, subst, arith}
-use Rattle.sw_thin.specs.ThinTree.{Stmt, Let, Print}
+use Rattle.sw_thin.specs.Program.{Stmt, Let, Print}
 use Rattle.sw_thin.specs.Thin.{IsThinStmt, lets, IsThin}
 use Rattle.sw_thin.specs.TreeReading.{lets_after}
 

@@ -8,21 +8,21 @@ use Rattle.sw_job.specs.declared.turn.Operand.{Operand}
 use Rattle.sw_job.specs.declared.turn.Operand.TheVariants.{Value as Operation}
 use Rattle.sw_job.specs.declared.turn.Frame.{Frame}
 use Rattle.sw_job.specs.declared.code.FuncCode.{FuncCode}
-use Rattle.sw_job.specs.Machine.{frame, instr_in, fetch, CodeNext, CodeGoes, CodeStops, CodeBad, on_value, on_text, on_outcome, is_take, at_take, not_take, code_give, code_act, code_act_at, CodeEnds, CodeStuck, code_then, code_run}
+use Rattle.sw_job.specs.Machine.{frame, instr_in, fetch, CodeNext, CodeGoes, CodeStops, CodeNoStep, on_value, on_text, on_outcome, is_take, at_take, not_take, code_give, code_act, code_act_at, CodeEnds, CodeStuck, code_then, code_run}
 use Rattle.sw_job.specs.Values.{Outcome, Gives, Traps, Wrong}
-use Rattle.sw_thin.specs.Meaning.{Todo, Await, Held, Var, Part, Kind, TreeFrame, Fr, TreeNext, TreeGoes, TreeStops, TreeBad, give, on_part, with_text, with_outcome}
-use Rattle.sw_thin.specs.Codes.{Scope}
-use Rattle.sw_thin.proofs.Track.{HasAt, on_none, Track, item, scope, vals, outer, full, below, AtEnd, Stands, Good}
+use Rattle.sw_thin.specs.Meaning.{Todo, Await, Held, Var, Part, Kind, TreeFrame, Fr, TreeNext, TreeGoes, TreeStops, TreeNoStep, give, on_part, with_text, with_outcome}
+use Rattle.sw_thin.specs.Lowering.{Scope}
+use Rattle.sw_thin.proofs.Track.{HasAt, on_none, Track, item, scope, vals, outer, full, below, AtEnd, Stands, Simulates}
 
-pub has_front : (instrs : List Instr) (p : ℕ) (a b : List Instr) → HasAt instrs p (a ++ b) → HasAt instrs p a
-has_front instrs p [] b h = tt
-has_front instrs p (i ∷ a) b h = (h.0, has_front instrs (p + 1) a b h.1)
+pub has_prefix : (instrs : List Instr) (p : ℕ) (a b : List Instr) → HasAt instrs p (a ++ b) → HasAt instrs p a
+has_prefix instrs p [] b h = tt
+has_prefix instrs p (i ∷ a) b h = (h.0, has_prefix instrs (p + 1) a b h.1)
 
-pub has_back : (instrs : List Instr) (p : ℕ) (a b : List Instr) → HasAt instrs p (a ++ b) → HasAt instrs (p + length a) b
-has_back instrs p [] b h = let e : p ≡ p + 0 = omega arith in subst (λ n. HasAt instrs n b) e h
-has_back instrs p (i ∷ a) b h =
+pub has_suffix : (instrs : List Instr) (p : ℕ) (a b : List Instr) → HasAt instrs p (a ++ b) → HasAt instrs (p + length a) b
+has_suffix instrs p [] b h = let e : p ≡ p + 0 = omega arith in subst (λ n. HasAt instrs n b) e h
+has_suffix instrs p (i ∷ a) b h =
     let e : p + 1 + length a ≡ p + length (i ∷ a) = omega arith in
-    subst (λ n. HasAt instrs n b) e (has_back instrs (p + 1) a b h.1)
+    subst (λ n. HasAt instrs n b) e (has_suffix instrs (p + 1) a b h.1)
 
 -- the code comes from one state to another
 pub record Comes (code : List FuncCode) (max : ℕ) (m : Frame) (ms : List Frame) (n : ℕ) (m' : Frame) (ms' : List Frame) (n' : ℕ) : Type 0 where
@@ -33,17 +33,17 @@ comes_on a b = record { by = λ k. let y = b.by k in let x = a.by y.0 in (x.0, x
 
 -- what the code does where the tree does this
 abbrev pub Follows : List FuncCode → ℕ → TreeNext → Frame → List Frame → ℕ → Type 0
-Follows code max (TreeGoes fs n') m ms n = (m' : Frame) × (ms' : List Frame) × Comes code max m ms n m' ms' n' × Good code fs m' ms'
-Follows code max (TreeStops e fs n') m ms n = (ms' : List Frame) × (j : ℕ) × (code_run code max j m ms n ≡ CodeEnds e ms' n') × below code (Good code fs) fs ms'
-Follows code max TreeBad m ms n = (j : ℕ) × (code_run code max j m ms n ≡ CodeStuck)
+Follows code max (TreeGoes fs n') m ms n = (m' : Frame) × (ms' : List Frame) × Comes code max m ms n m' ms' n' × Simulates code fs m' ms'
+Follows code max (TreeStops e fs n') m ms n = (ms' : List Frame) × (j : ℕ) × (code_run code max j m ms n ≡ CodeEnds e ms' n') × below code (Simulates code fs) fs ms'
+Follows code max TreeNoStep m ms n = (j : ℕ) × (code_run code max j m ms n ≡ CodeStuck)
 
 -- the same after the code came somewhere
 pub follows_on : (code : List FuncCode) (max : ℕ) (next : TreeNext) {m m' : Frame} {ms ms' : List Frame} {n n' : ℕ} → Comes code max m ms n m' ms' n' → Follows code max next m' ms' n' → Follows code max next m ms n
 follows_on code max (TreeGoes fs x) a w = (w.0, w.1, comes_on a w.2, w.3)
 follows_on code max (TreeStops e fs x) a w = let b = a.by w.1 in (w.0, b.0, b.1 ∙ w.2, w.3)
-follows_on code max TreeBad a w = let b = a.by w.0 in (b.0, b.1 ∙ w.1)
+follows_on code max TreeNoStep a w = let b = a.by w.0 in (b.0, b.1 ∙ w.1)
 
--- the instruction at a place
+-- the instruction at an address
 pub fetched : (code : List FuncCode) (f p : ℕ) (func : FuncCode) (i : Instr) → slice_get code f ≡ Some func → slice_get func.instrs p ≡ Some i → fetch code f p ≡ Some i
 fetched code f p func i in_code at = ap (λ o. instr_in o p) in_code ∙ at
 
@@ -54,12 +54,12 @@ stepped code max f p func i ops ms n in_code at k = ap (λ x. code_then (code_ac
 -- what one instruction makes of what the tree does
 abbrev pub Makes : List FuncCode → ℕ → TreeNext → CodeNext → Type 0
 Makes code max next (CodeGoes m ms n) = Follows code max next m ms n
-Makes code max (TreeStops e fs n') (CodeStops e' ms n) = (e ≡ e') × (n' ≡ n) × below code (Good code fs) fs ms
+Makes code max (TreeStops e fs n') (CodeStops e' ms n) = (e ≡ e') × (n' ≡ n) × below code (Simulates code fs) fs ms
 Makes code max (TreeGoes fs n') (CodeStops e' ms n) = ⊥
-Makes code max TreeBad (CodeStops e' ms n) = ⊥
-Makes code max TreeBad CodeBad = Unit {0}
-Makes code max (TreeGoes fs n') CodeBad = ⊥
-Makes code max (TreeStops e fs n') CodeBad = ⊥
+Makes code max TreeNoStep (CodeStops e' ms n) = ⊥
+Makes code max TreeNoStep CodeNoStep = Unit {0}
+Makes code max (TreeGoes fs n') CodeNoStep = ⊥
+Makes code max (TreeStops e fs n') CodeNoStep = ⊥
 
 pub makes : (code : List FuncCode) (max f p : ℕ) (func : FuncCode) (i : Instr) (ops : List Operand) (ms : List Frame) (n : ℕ) (next : TreeNext) → slice_get code f ≡ Some func → slice_get func.instrs p ≡ Some i → Makes code max next (code_act code max i f p ops ms n) → Follows code max next (frame f p ops) ms n
 makes code max f p func i ops ms n next in_code at = go next (code_act code max i f p ops ms n) (λ k. stepped code max f p func i ops ms n in_code at k)
@@ -68,13 +68,13 @@ makes code max f p func i ops ms n next in_code at = go next (code_act code max 
     go next (CodeGoes m' ms' n') st w = follows_on code max next (record { by = λ k. (suc k, st k) }) w
     go (TreeStops e fs n1) (CodeStops e' ms' n') st w = (ms', 1, st 0 ∙ ap (λ x. CodeEnds x ms' n') (sym w.0) ∙ ap (λ x. CodeEnds e ms' x) (sym w.1), w.2)
     go (TreeGoes fs n1) (CodeStops e' ms' n') st w = absurd w
-    go TreeBad (CodeStops e' ms' n') st w = absurd w
-    go TreeBad CodeBad st w = (1, st 0)
-    go (TreeGoes fs n1) CodeBad st w = absurd w
-    go (TreeStops e fs n1) CodeBad st w = absurd w
+    go TreeNoStep (CodeStops e' ms' n') st w = absurd w
+    go TreeNoStep CodeNoStep st w = (1, st 0)
+    go (TreeGoes fs n1) CodeNoStep st w = absurd w
+    go (TreeStops e fs n1) CodeNoStep st w = absurd w
 
 -- the code is where the tree is already
-pub stays : (code : List FuncCode) (max : ℕ) (fs : List TreeFrame) (m : Frame) (ms : List Frame) (n : ℕ) → Good code fs m ms → Follows code max (TreeGoes fs n) m ms n
+pub stays : (code : List FuncCode) (max : ℕ) (fs : List TreeFrame) (m : Frame) (ms : List Frame) (n : ℕ) → Simulates code fs m ms → Follows code max (TreeGoes fs n) m ms n
 stays code max fs m ms n g = (m, ms, record { by = λ k. (k, refl) }, g)
 
 -- what stays of a frame while it steps
@@ -98,7 +98,7 @@ stands_at b h t p ops e tr = record { func = b.func; in_code = b.in_code; r = b.
 pub some_inj : {A : Type 0} (a b : A) → Some a ≡ Some b → a ≡ b
 some_inj a b e = cc
 
--- a track under other names for its place and its operands
+-- a track under other names for its address and its operands
 pub track_as : (instrs : List Instr) (out : Scope) (r : ℕ) (last : Scope) (t : List Todo) {p q : ℕ} {sc sc1 : Scope} → Some sc1 ≡ Some sc → p ≡ q → Track instrs out r last p sc t → Track instrs out r last q sc1 t
 track_as instrs out r last t {p} {q} {sc} {sc1} e f tr =
     subst (λ x. Track instrs out r last x sc1 t) f (subst (λ s. Track instrs out r last p s t) (sym (some_inj sc1 sc e)) tr)
@@ -130,36 +130,36 @@ outcome_makes code max (Traps kind) n go code_go w = (refl, refl, tt)
 outcome_makes code max Wrong n go code_go w = tt
 
 -- a value is taken where Take stands alone
-at_take_is : (o : Option Instr) (next : CodeNext) → at_take o next ≡ (if is_take o then next else CodeBad)
+at_take_is : (o : Option Instr) (next : CodeNext) → at_take o next ≡ (if is_take o then next else CodeNoStep)
 at_take_is (Some Take) next = refl
 at_take_is _ next = refl
 
-not_take_is : (o : Option Instr) (next : CodeNext) → not_take o next ≡ (if is_take o then CodeBad else next)
+not_take_is : (o : Option Instr) (next : CodeNext) → not_take o next ≡ (if is_take o then CodeNoStep else next)
 not_take_is (Some Take) next = refl
 not_take_is _ next = refl
 
-pub taken_as : (o : Option Instr) (next : CodeNext) (b : Bool) → is_take o ≡ b → at_take o next ≡ (if b then next else CodeBad)
-taken_as o next b e = at_take_is o next ∙ ap (λ z. if z then next else CodeBad) e
+pub taken_as : (o : Option Instr) (next : CodeNext) (b : Bool) → is_take o ≡ b → at_take o next ≡ (if b then next else CodeNoStep)
+taken_as o next b e = at_take_is o next ∙ ap (λ z. if z then next else CodeNoStep) e
 
-pub not_taken_as : (o : Option Instr) (next : CodeNext) (b : Bool) → is_take o ≡ b → not_take o next ≡ (if b then CodeBad else next)
-not_taken_as o next b e = not_take_is o next ∙ ap (λ z. if z then CodeBad else next) e
+pub not_taken_as : (o : Option Instr) (next : CodeNext) (b : Bool) → is_take o ≡ b → not_take o next ≡ (if b then CodeNoStep else next)
+not_taken_as o next b e = not_take_is o next ∙ ap (λ z. if z then CodeNoStep else next) e
 
--- where a value is awaited, the code of what is left stands behind it
+-- where a value is awaited, the code of what is left follows it
 await_track : (instrs : List Instr) (out : Scope) (p r : ℕ) (last sc : Scope) (t : List Todo) → Track instrs out r last p sc (Await ∷ t) → Track instrs out r last (p + 1) (None ∷ sc) t
 await_track instrs out p r last sc t (item has a tr) = track_as instrs out r last t a refl tr
 
 module _ (code : List FuncCode) (max : ℕ) where
   -- a frame that awaits a value is given it
-  pub give_good : (v : Value) (k : Kind) (h : List Held) (t : List Todo) (fs : List TreeFrame) (f q : ℕ) (ops : List Operand) (ms : List Frame) (n : ℕ) → Stands code k h (Await ∷ t) fs (Good code fs) f q ops ms → Follows code max (TreeGoes (Fr k (Part v ∷ h) t ∷ fs) n) (frame f (q + 1) (Operation v ∷ ops)) ms n
-  give_good v k h t fs f q ops ms n s =
+  pub give_simulates : (v : Value) (k : Kind) (h : List Held) (t : List Todo) (fs : List TreeFrame) (f q : ℕ) (ops : List Operand) (ms : List Frame) (n : ℕ) → Stands code k h (Await ∷ t) fs (Simulates code fs) f q ops ms → Follows code max (TreeGoes (Fr k (Part v ∷ h) t ∷ fs) n) (frame f (q + 1) (Operation v ∷ ops)) ms n
+  give_simulates v k h t fs f q ops ms n s =
       stays code max (Fr k (Part v ∷ h) t ∷ fs) (frame f (q + 1) (Operation v ∷ ops)) ms n (stands_at (base_of s) (Part v ∷ h) t (q + 1) (Operation v ∷ ops) (ap (λ o. Operation v ∷ o) s.operands) (await_track s.func.instrs (outer k (full fs)) q s.r s.last (scope h) t s.track))
 
   -- a value for the frame that awaits it, or for the caller of all
-  pub give_makes : (v : Value) (fs : List TreeFrame) (ms : List Frame) (n : ℕ) → below code (Good code fs) fs ms → Makes code max (give v fs n) (code_give code v ms n)
+  pub give_makes : (v : Value) (fs : List TreeFrame) (ms : List Frame) (n : ℕ) → below code (Simulates code fs) fs ms → Makes code max (give v fs n) (code_give code v ms n)
   give_makes v [] [] n b = (refl, refl, tt)
   give_makes v [] (m ∷ ms) n b = absurd b
   give_makes v (t ∷ ts) [] n b = absurd b
   give_makes v (Fr k h (Await ∷ t) ∷ ts) (m ∷ ms) n b =
-      subst (λ z. Makes code max (TreeGoes (Fr k (Part v ∷ h) t ∷ ts) n) z) (sym (taken_as (fetch code m.func.0 m.place) (CodeGoes (frame m.func.0 (m.place + 1) (Operation v ∷ m.operands)) ms n) true b.1)) (give_good v k h t ts m.func.0 m.place m.operands ms n b.0)
-  give_makes v (Fr k h [] ∷ ts) (m ∷ ms) n b = subst (λ z. Makes code max TreeBad z) (sym (taken_as (fetch code m.func.0 m.place) (CodeGoes (frame m.func.0 (m.place + 1) (Operation v ∷ m.operands)) ms n) false b.1)) tt
-  give_makes v (Fr k h (i ∷ t) ∷ ts) (m ∷ ms) n b = subst (λ z. Makes code max TreeBad z) (sym (taken_as (fetch code m.func.0 m.place) (CodeGoes (frame m.func.0 (m.place + 1) (Operation v ∷ m.operands)) ms n) false b.1)) tt
+      subst (λ z. Makes code max (TreeGoes (Fr k (Part v ∷ h) t ∷ ts) n) z) (sym (taken_as (fetch code m.func.0 m.address) (CodeGoes (frame m.func.0 (m.address + 1) (Operation v ∷ m.operands)) ms n) true b.1)) (give_simulates v k h t ts m.func.0 m.address m.operands ms n b.0)
+  give_makes v (Fr k h [] ∷ ts) (m ∷ ms) n b = subst (λ z. Makes code max TreeNoStep z) (sym (taken_as (fetch code m.func.0 m.address) (CodeGoes (frame m.func.0 (m.address + 1) (Operation v ∷ m.operands)) ms n) false b.1)) tt
+  give_makes v (Fr k h (i ∷ t) ∷ ts) (m ∷ ms) n b = subst (λ z. Makes code max TreeNoStep z) (sym (taken_as (fetch code m.func.0 m.address) (CodeGoes (frame m.func.0 (m.address + 1) (Operation v ∷ m.operands)) ms n) false b.1)) tt

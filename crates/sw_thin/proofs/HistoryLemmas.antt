@@ -1,4 +1,4 @@
--- Kept histories: they grow event by event, their labels replay, and each has one row for each event.
+-- Kept histories: they grow event by event, their labels replay, and each event is kept in one way.
 use Rattle.std.proofs.Common.{◌≡◌, ℕ, zero, suc, ◌≤◌, max, List, [], ◌∷◌, ◌++◌, Option, Some, None, refl, sym, ap, ◌∙◌, subst, arith}
 use Rattle.std.specs.Prelude.{slice_get, slice_set, is_some, if◌then◌else◌}
 use Rattle.std.specs.Option.{option_map}
@@ -13,25 +13,25 @@ use Rattle.sw_thin.specs.declared.history.Label.TheVariants.{Go}
 use Rattle.sw_thin.specs.declared.history.Entry.{Entry}
 use Rattle.sw_thin.specs.Meaning.{TreeFrame, TreeEnds, TreeReaches}
 use Rattle.sw_thin.specs.State.{Activation, MeaningState, Replays, after_exit}
-use Rattle.sw_thin.specs.History.{slice_limit, job, KeptTurn, Row, IsKept, next, first_ready, IsDriven, labels_of}
+use Rattle.sw_thin.specs.History.{slice_limit, job_no, KeptTurn, KeptEvent, IsKept, next_event, first_ready, IsDriven, labels_of}
 use Rattle.sw_thin.proofs.Reaches.{tree_unique, tree_counted}
 
 -- one more event
-pub kept_more : (s : MeaningState) (entries : List Entry) (t : MeaningState) (e : Entry) (u : MeaningState) → IsKept s entries t → Row t e.event e.labels u → IsKept s (entries ++ e ∷ []) u
-kept_more s [] t e u same row = (u, subst (λ z. Row z e.event e.labels u) same row, refl)
-kept_more s (x ∷ entries) t e u kept row = (kept.0, kept.1, kept_more kept.0 entries t e u kept.2 row)
+pub kept_more : (s : MeaningState) (entries : List Entry) (t : MeaningState) (e : Entry) (u : MeaningState) → IsKept s entries t → KeptEvent t e.event e.labels u → IsKept s (entries ++ e ∷ []) u
+kept_more s [] t e u same kept_event = (u, subst (λ z. KeptEvent z e.event e.labels u) same kept_event, refl)
+kept_more s (x ∷ entries) t e u kept kept_event = (kept.0, kept.1, kept_more kept.0 entries t e u kept.2 kept_event)
 
 replays_more : (s : MeaningState) (a b : List Label) (t u : MeaningState) → Replays s a t → Replays t b u → Replays s (a ++ b) u
 replays_more s [] b t u same rest = subst (λ z. Replays z b u) same rest
 replays_more s (l ∷ a) b t u first rest = (first.0, first.1, replays_more first.0 a b t u first.2 rest)
 
-row_replays : (s : MeaningState) (e : Event) (labels : List Label) (t : MeaningState) → Row s e labels t → Replays s labels t
-row_replays s (Turn j) labels t row = subst (λ l. Replays s l t) (sym row.1) (t, row.2.turn, refl)
+event_replays : (s : MeaningState) (e : Event) (labels : List Label) (t : MeaningState) → KeptEvent s e labels t → Replays s labels t
+event_replays s (Turn j) labels t kept_event = subst (λ l. Replays s l t) (sym kept_event.1) (t, kept_event.2.turn, refl)
 
 -- the labels of a kept history replay
 pub kept_replays : (s : MeaningState) (entries : List Entry) (t : MeaningState) → IsKept s entries t → Replays s (labels_of entries) t
 kept_replays s [] t same = same
-kept_replays s (e ∷ entries) t kept = replays_more s e.labels (labels_of entries) kept.0 t (row_replays s e.event e.labels kept.0 kept.1) (kept_replays kept.0 entries t kept.2)
+kept_replays s (e ∷ entries) t kept = replays_more s e.labels (labels_of entries) kept.0 t (event_replays s e.event e.labels kept.0 kept.1) (kept_replays kept.0 entries t kept.2)
 
 some_same : {A : Type 0} (a b : A) → Some a ≡ Some b → a ≡ b
 some_same a b e = cc
@@ -56,12 +56,12 @@ turn_same s j k k' t t' a b =
     (at_limit a.turn.activation.given a.turn.activation.left k a.turn.begun a.turn.exit a.turn.left a.turn.reaches a.within a.sliced)
     (at_limit a.turn.activation.given a.turn.activation.left k' b.turn.begun b.turn.exit b.turn.left other b.within b.sliced) in (
       a.counted ∙ ap (λ n. max 1 n) e.2 ∙ sym b.counted,
-      a.turn.after ∙ exits_same s j a.turn.activation b.turn.activation a.turn.exit b.turn.exit a.turn.left b.turn.left a.turn.begun b.turn.begun activation e.0 e.1 e.2 ∙ sym b.turn.after,
+      a.turn.effect ∙ exits_same s j a.turn.activation b.turn.activation a.turn.exit b.turn.exit a.turn.left b.turn.left a.turn.begun b.turn.begun activation e.0 e.1 e.2 ∙ sym b.turn.effect,
     )
 
--- an event has one row
-row_same : (s : MeaningState) (e : Event) (a b : List Label) (t u : MeaningState) → Row s e a t → Row s e b u → (a ≡ b) × (t ≡ u)
-row_same s (Turn j) a b t u x y =
+-- an event is kept in one way
+event_same : (s : MeaningState) (e : Event) (a b : List Label) (t u : MeaningState) → KeptEvent s e a t → KeptEvent s e b u → (a ≡ b) × (t ≡ u)
+event_same s (Turn j) a b t u x y =
     let same = turn_same s j.0 x.0 y.0 t u x.2 y.2 in
     (x.1 ∙ ap (λ k. Go j k ∷ []) same.0 ∙ sym y.1, same.1)
 
@@ -75,9 +75,9 @@ driven_one s [] (f ∷ b) t u x y = let h : None ≡ Some f.event = sym x.1 ∙ 
 driven_one s (e ∷ a) [] t u x y = let h : None ≡ Some e.event = sym y.1 ∙ x.0 in absurd (cc)
 driven_one s (e ∷ a) (f ∷ b) t u x y =
     let event : e.event ≡ f.event = some_same e.event f.event (sym x.0 ∙ y.0) in
-    let row = row_same s e.event e.labels f.labels x.1 y.1 x.2 (subst (λ z. Row s z f.labels y.1) (sym event) y.2) in
-    let rest = driven_one x.1 a b t u x.3 (subst (λ z. IsDriven z b u) (sym row.1) y.3) in
-    let head = entry_same e f event row.0 in
+    let kept_event = event_same s e.event e.labels f.labels x.1 y.1 x.2 (subst (λ z. KeptEvent s z f.labels y.1) (sym event) y.2) in
+    let rest = driven_one x.1 a b t u x.3 (subst (λ z. IsDriven z b u) (sym kept_event.1) y.3) in
+    let head = entry_same e f event kept_event.0 in
     let tail : b ≡ a = rest.0 in
     ((λ i. sym head i ∷ tail i), rest.1)
 
@@ -103,18 +103,18 @@ after_one s j a x l b z one = subst (λ n. HasOneJob (after_exit s n a x l b)) (
     go (Trap kind) = record { job = one.job; only = one.only }
     go Slice = record { job = _; only = set_one one.job _ s.activations one.only }
 
-row_of_one : (s : MeaningState) (e : Event) (labels : List Label) (t : MeaningState) → HasOneJob s → Row s e labels t → (next s ≡ Some e) × HasOneJob t
-row_of_one s (Turn j) labels t one row =
-    let turn = row.2.turn in
+event_of_one : (s : MeaningState) (e : Event) (labels : List Label) (t : MeaningState) → HasOneJob s → KeptEvent s e labels t → (next_event s ≡ Some e) × HasOneJob t
+event_of_one s (Turn j) labels t one kept_event =
+    let turn = kept_event.2.turn in
     let here = first_of_one one.job j.0 turn.activation (ap (λ os. slice_get os j.0) (sym one.only) ∙ turn.is_ready) in
-    let j_is : job 0 ≡ j = ap job (sym here.0) in (
-      ap (λ o. if is_some o then None else option_map (λ k. Turn (job k)) (first_ready 0 s.activations)) turn.untrapped ∙ ap (λ os. option_map (λ k. Turn (job k)) (first_ready 0 os)) one.only ∙ ap (option_map (λ k. Turn (job k))) here.1 ∙ ap (λ k. Some (Turn k)) j_is,
-      subst HasOneJob (sym turn.after) (after_one s j.0 turn.activation turn.exit turn.left turn.begun here.0 one),
+    let j_is : job_no 0 ≡ j = ap job_no (sym here.0) in (
+      ap (λ o. if is_some o then None else option_map (λ k. Turn (job_no k)) (first_ready 0 s.activations)) turn.untrapped ∙ ap (λ os. option_map (λ k. Turn (job_no k)) (first_ready 0 os)) one.only ∙ ap (option_map (λ k. Turn (job_no k))) here.1 ∙ ap (λ k. Some (Turn k)) j_is,
+      subst HasOneJob (sym turn.effect) (after_one s j.0 turn.activation turn.exit turn.left turn.begun here.0 one),
     )
 
 -- with one job each event that may come is the driver's
-pub kept_driven : (s : MeaningState) (entries : List Entry) (t : MeaningState) → HasOneJob s → IsKept s entries t → next t ≡ None → IsDriven s entries t
-kept_driven s [] t one kept end = (kept, subst (λ z. next z ≡ None) kept end)
+pub kept_driven : (s : MeaningState) (entries : List Entry) (t : MeaningState) → HasOneJob s → IsKept s entries t → next_event t ≡ None → IsDriven s entries t
+kept_driven s [] t one kept end = (kept, subst (λ z. next_event z ≡ None) kept end)
 kept_driven s (e ∷ entries) t one kept end =
-    let r = row_of_one s e.event e.labels kept.0 one kept.1 in
+    let r = event_of_one s e.event e.labels kept.0 one kept.1 in
     (r.0, kept.0, kept.1, kept_driven kept.0 entries t r.1 kept.2 end)

@@ -6,16 +6,16 @@ use Rattle.std.specs.Option.{option_map}
 use Rattle.sw_job.specs.declared.value.Ty.{Ty}
 use Rattle.std.proofs.Common.{get_or, drop-cons}
 use Rattle.std.proofs.lemmas.List.{append_assoc}
-use Rattle.sw_thin.specs.ThinTree as t
-use Rattle.sw_thin.specs.ThinTree.{Let as LetStmt, Print as PrintStmt}
-use Rattle.sw_thin.specs.ThinTrees.{stmt_of, body_of, func_of}
-use Rattle.sw_thin.specs.declared.thin.Stmt.{Stmt}
-use Rattle.sw_thin.specs.declared.thin.Func.{Func}
+use Rattle.sw_thin.specs.Program as t
+use Rattle.sw_thin.specs.Program.{Let as LetStmt, Print as PrintStmt}
+use Rattle.sw_thin.specs.ProgramView.{stmt_of, body_of, func_of}
+use Rattle.sw_thin.specs.declared.program.Stmt.{Stmt}
+use Rattle.sw_thin.specs.declared.program.Func.{Func}
 use Rattle.sw_job.specs.declared.value.Ty.TheVariants.{Void as VoidTy}
 use Rattle.sw_job.specs.declared.instr.Instr.{Instr}
 use Rattle.sw_job.specs.declared.code.Shape.{Shape}
 use Rattle.sw_job.specs.declared.code.FuncCode.{FuncCode}
-use Rattle.sw_thin.specs.Codes.{Vars, var_type, depth_of, type_of, expr_in, declares, declared_types, stmt_code, scope_after, body_code, stmt_shapes, vars_after, body_shapes, func_code}
+use Rattle.sw_thin.specs.Lowering.{Vars, var_type, depth_of, type_of, expr_in, declares, declared_types, stmt_code, scope_after, body_code, stmt_shapes, vars_after, body_shapes, func_code}
 use Rattle.sw_thin.specs.Drafts.{is_named_at, scope_of}
 
 -- how many variables are newer than the newest of a name

@@ -2,7 +2,7 @@
 use Rattle.std.proofs.Common.{◌≡◌, ℕ, zero, suc, ◌+◌, ◌≤◌, max, List, [], ◌∷◌, Option, Some, None, refl, sym, ap, ◌∙◌, subst, arith, Bool, true, false}
 use Rattle.std.specs.Prelude.{nat_lt, if◌then◌else◌}
 use Rattle.std.proofs.lemmas.Bool.{ltb-true, ltb-false, lt-ltb}
-use Rattle.sw_thin.specs.ThinTree.{Int as IntExpr, Str as StrExpr, Var as VarExpr, Add as AddExpr}
+use Rattle.sw_thin.specs.Program.{Int as IntExpr, Str as StrExpr, Var as VarExpr, Add as AddExpr}
 use Rattle.sw_job.specs.declared.value.Value.{Value}
 use Rattle.sw_job.specs.declared.value.Value.TheVariants.{Void}
 use Rattle.sw_job.specs.declared.turn.Frame.{Frame}
@@ -11,10 +11,10 @@ use Rattle.sw_job.specs.declared.turn.Exit.TheVariants.{Ask, Return, Trap, Slice
 use Rattle.sw_job.specs.declared.turn.Given.{Given}
 use Rattle.sw_job.specs.declared.turn.Given.TheVariants.{Nothing, Value as GivenValue}
 use Rattle.sw_job.specs.declared.code.FuncCode.{FuncCode}
-use Rattle.sw_job.specs.Machine.{CodeNext, CodeGoes, CodeStops, CodeBad, code_step, code_begin, CodeEnds, code_then, code_run, CodeReaches}
+use Rattle.sw_job.specs.Machine.{CodeNext, CodeGoes, CodeStops, CodeNoStep, code_step, code_enter, CodeEnds, code_then, code_run, CodeReaches}
 use Rattle.sw_job.specs.Values.{printed, Outcome, Gives, Traps, Wrong, sum_of}
 use Rattle.sw_job.specs.Typed.{TypedStart}
-use Rattle.sw_thin.specs.Meaning.{Todo, Eval, Exec, DoAdd, DoLet, DoPrint, Await, Forget, Held, Var, Part, Kind, Body, TreeFrame, Fr, TreeNext, TreeGoes, TreeStops, TreeBad, give, look, on_part, with_value, with_outcome, with_text, eval, expand, tree_act, tree_step, TreeEnds, tree_then, tree_run, tree_begin, TreeReaches}
+use Rattle.sw_thin.specs.Meaning.{Todo, Eval, Exec, DoAdd, DoLet, DoPrint, Await, Forget, Held, Var, Part, Kind, Body, TreeFrame, Fr, TreeNext, TreeGoes, TreeStops, TreeNoStep, give, lookup, on_part, with_value, with_outcome, with_text, eval, expand, tree_act, tree_step, TreeEnds, tree_then, tree_run, tree_enter, TreeReaches}
 use Rattle.sw_thin.specs.Carries.{SameTurn, Alike}
 
 -- two runs of the tree from the same frames that end, end alike
@@ -26,16 +26,16 @@ tree_run_unique max (suc steps) (suc steps') fs n {e} {e'} {left} {left'} {b} {b
     go : ((fs1 : List TreeFrame) (n1 : ℕ) → tree_run max steps fs1 n1 ≡ TreeEnds e left b → tree_run max steps' fs1 n1 ≡ TreeEnds e' left' b' → (e ≡ e') × (left ≡ left') × (b ≡ b')) → (next : TreeNext) → tree_then next (tree_run max steps) ≡ TreeEnds e left b → tree_then next (tree_run max steps') ≡ TreeEnds e' left' b' → (e ≡ e') × (left ≡ left') × (b ≡ b')
     go ih (TreeGoes fs1 n1) p q = ih fs1 n1 p q
     go ih (TreeStops x fs1 n1) p q = (cc, cc, cc)
-    go ih TreeBad p q = absurd (cc)
+    go ih TreeNoStep p q = absurd (cc)
 
 -- a turn of the tree comes to one end
 pub tree_unique : (max : ℕ) (given : Given) (fs : List TreeFrame) {e e' : Exit} {left left' : List TreeFrame} {n n' : ℕ} → TreeReaches max given fs (TreeEnds e left n) → TreeReaches max given fs (TreeEnds e' left' n') → (e ≡ e') × (left ≡ left') × (n ≡ n')
-tree_unique max given fs {e} {e'} {left} {left'} {n} {n'} p q = go (tree_begin given fs) p.1 q.1
+tree_unique max given fs {e} {e'} {left} {left'} {n} {n'} p q = go (tree_enter given fs) p.1 q.1
   where
     go : (next : TreeNext) → tree_then next (tree_run max p.0) ≡ TreeEnds e left n → tree_then next (tree_run max q.0) ≡ TreeEnds e' left' n' → (e ≡ e') × (left ≡ left') × (n ≡ n')
     go (TreeGoes fs1 n1) x y = tree_run_unique max p.0 q.0 fs1 n1 x y
     go (TreeStops z fs1 n1) x y = (cc, cc, cc)
-    go TreeBad x y = absurd (cc)
+    go TreeNoStep x y = absurd (cc)
 
 code_run_unique : (code : List FuncCode) (max steps steps' : ℕ) (m : Frame) (ms : List Frame) (n : ℕ) {e e' : Exit} {frames frames' : List Frame} {b b' : ℕ} → code_run code max steps m ms n ≡ CodeEnds e frames b → code_run code max steps' m ms n ≡ CodeEnds e' frames' b' → (e ≡ e') × (frames ≡ frames') × (b ≡ b')
 code_run_unique code max zero steps' m ms n p q = absurd (cc)
@@ -45,16 +45,16 @@ code_run_unique code max (suc steps) (suc steps') m ms n {e} {e'} {frames} {fram
     go : ((m1 : Frame) (ms1 : List Frame) (n1 : ℕ) → code_run code max steps m1 ms1 n1 ≡ CodeEnds e frames b → code_run code max steps' m1 ms1 n1 ≡ CodeEnds e' frames' b' → (e ≡ e') × (frames ≡ frames') × (b ≡ b')) → (next : CodeNext) → code_then next (code_run code max steps) ≡ CodeEnds e frames b → code_then next (code_run code max steps') ≡ CodeEnds e' frames' b' → (e ≡ e') × (frames ≡ frames') × (b ≡ b')
     go ih (CodeGoes m1 ms1 n1) p q = ih m1 ms1 n1 p q
     go ih (CodeStops x ms1 n1) p q = (cc, cc, cc)
-    go ih CodeBad p q = absurd (cc)
+    go ih CodeNoStep p q = absurd (cc)
 
 -- a turn of the code comes to one end
 pub code_unique : (code : List FuncCode) (max : ℕ) (given : Given) (ms : List Frame) {e e' : Exit} {frames frames' : List Frame} {n n' : ℕ} → CodeReaches code max given ms (CodeEnds e frames n) → CodeReaches code max given ms (CodeEnds e' frames' n') → (e ≡ e') × (frames ≡ frames') × (n ≡ n')
-code_unique code max given ms {e} {e'} {frames} {frames'} {n} {n'} p q = go (code_begin code given ms) p.1 q.1
+code_unique code max given ms {e} {e'} {frames} {frames'} {n} {n'} p q = go (code_enter code given ms) p.1 q.1
   where
     go : (next : CodeNext) → code_then next (code_run code max p.0) ≡ CodeEnds e frames n → code_then next (code_run code max q.0) ≡ CodeEnds e' frames' n' → (e ≡ e') × (frames ≡ frames') × (n ≡ n')
     go (CodeGoes m1 ms1 n1) x y = code_run_unique code max p.0 q.0 m1 ms1 n1 x y
     go (CodeStops z ms1 n1) x y = (cc, cc, cc)
-    go CodeBad x y = absurd (cc)
+    go CodeNoStep x y = absurd (cc)
 
 -- what is alike for all numbers of turns stays so: the tree's turn reaches the exit that the code's reaches
 pub alike_all : (code : List FuncCode) (max : ℕ) (given : Given) (frames : List Frame) (fs : List TreeFrame) {e : Exit} {frames' : List Frame} {b : ℕ} → ((turns : ℕ) → Alike code turns frames fs) → TypedStart code given frames → 1 ≤ max → CodeReaches code max given frames (CodeEnds e frames' b) → (left : List TreeFrame) × TreeReaches max given fs (TreeEnds e left b) × ((turns : ℕ) → Alike code turns frames' left)
@@ -75,18 +75,18 @@ alike_all code max given frames fs {e} {frames'} {b} all typed le reached =
 abbrev pub Same : TreeNext → ℕ → Type 0
 Same (TreeGoes fs n') n = n' ≡ n
 Same (TreeStops e fs n') n = (n' ≡ n) × (e ≡ Slice → ⊥)
-Same TreeBad n = Unit {0}
+Same TreeNoStep n = Unit {0}
 
 -- where at most max statements may begin, a step begins none or one of them; and it is the same where others may
 abbrev pub Counted : ℕ → ℕ → (ℕ → TreeNext) → TreeNext → Type 0
 Counted most n step (TreeGoes fs n') = (n ≤ n') × (n ≤ most → n' ≤ most) × ((other : ℕ) → n' ≤ other → step other ≡ TreeGoes fs n')
 Counted most n step (TreeStops e fs n') = (n' ≡ n) × (e ≡ Slice → most ≤ n) × ((other : ℕ) → (e ≡ Slice → ⊥) → step other ≡ TreeStops e fs n')
-Counted most n step TreeBad = Unit {0}
+Counted most n step TreeNoStep = Unit {0}
 
 counted_same : (most n : ℕ) (next : TreeNext) → Same next n → Counted most n (λ other. next) next
 counted_same most n (TreeGoes fs n') s = (omega arith, λ l. omega arith, λ other l. refl)
 counted_same most n (TreeStops e fs n') s = (s.0, λ x. absurd (s.1 x), λ other x. refl)
-counted_same most n TreeBad s = tt
+counted_same most n TreeNoStep s = tt
 
 part_same : (h : List Held) (n : ℕ) (go : Value → List Held → TreeNext) → ((v : Value) (rest : List Held) → Same (go v rest) n) → Same (on_part h go) n
 part_same [] n go s = tt
@@ -115,7 +115,7 @@ give_same v (Fr k h (i ∷ t) ∷ fs) n = tt
 act_counted : (most : ℕ) (i : Todo) (k : Kind) (h : List Held) (t : List Todo) (fs : List TreeFrame) (n : ℕ) → Counted most n (λ other. tree_act other i k h t fs n) (tree_act most i k h t fs n)
 act_counted most (Eval (IntExpr m)) k h t fs n = counted_same most n (eval (IntExpr m) k h t fs n) refl
 act_counted most (Eval (StrExpr text)) k h t fs n = counted_same most n (eval (StrExpr text) k h t fs n) refl
-act_counted most (Eval (VarExpr x)) k h t fs n = counted_same most n (eval (VarExpr x) k h t fs n) (value_same (look x h) n _ (λ v. refl))
+act_counted most (Eval (VarExpr x)) k h t fs n = counted_same most n (eval (VarExpr x) k h t fs n) (value_same (lookup x h) n _ (λ v. refl))
 act_counted most (Eval (AddExpr a b)) k h t fs n = counted_same most n (eval (AddExpr a b) k h t fs n) refl
 act_counted most (Exec s) k h t fs n = go (nat_lt n most) (ltb-true n most) (ltb-false n most)
   where
@@ -168,14 +168,14 @@ run_counted most (suc steps) fs n {e} {left} {b} l p = go (λ fs1 n1 l1 x. run_c
           full = λ y. let full = s.1 (ex ∙ y) in omega arith;
           other = λ other no le. ap (λ z. tree_then z (tree_run other steps)) (s.2 other (λ y. no (sym ex ∙ y))) ∙ p;
         }
-    go ih TreeBad s p = absurd (cc)
+    go ih TreeNoStep s p = absurd (cc)
 
-begin_same : (given : Given) (fs : List TreeFrame) → Same (tree_begin given fs) 0
-begin_same given [] = tt
-begin_same Nothing (Fr k h (Await ∷ t) ∷ fs) = tt
-begin_same Nothing (Fr k h [] ∷ fs) = refl
-begin_same Nothing (Fr k h (i ∷ t) ∷ fs) = refl
-begin_same (GivenValue v) (f ∷ fs) = give_same v (f ∷ fs) 0
+enter_same : (given : Given) (fs : List TreeFrame) → Same (tree_enter given fs) 0
+enter_same given [] = tt
+enter_same Nothing (Fr k h (Await ∷ t) ∷ fs) = tt
+enter_same Nothing (Fr k h [] ∷ fs) = refl
+enter_same Nothing (Fr k h (i ∷ t) ∷ fs) = refl
+enter_same (GivenValue v) (f ∷ fs) = give_same v (f ∷ fs) 0
 
 -- what a turn says of how many statements may begin
 pub record TurnCounted (most : ℕ) (given : Given) (fs : List TreeFrame) (e : Exit) (left : List TreeFrame) (b : ℕ) : Type 0 where
@@ -187,9 +187,9 @@ pub record TurnCounted (most : ℕ) (given : Given) (fs : List TreeFrame) (e : E
   pub other : (other : ℕ) → (e ≡ Slice → ⊥) → b ≤ other → TreeReaches other given fs (TreeEnds e left b)
 
 pub tree_counted : (most : ℕ) (given : Given) (fs : List TreeFrame) {e : Exit} {left : List TreeFrame} {b : ℕ} → TreeReaches most given fs (TreeEnds e left b) → TurnCounted most given fs e left b
-tree_counted most given fs {e} {left} {b} p = go (tree_begin given fs) refl (begin_same given fs) p.1
+tree_counted most given fs {e} {left} {b} p = go (tree_enter given fs) refl (enter_same given fs) p.1
   where
-    go : (next : TreeNext) → tree_begin given fs ≡ next → Same next 0 → tree_then next (tree_run most p.0) ≡ TreeEnds e left b → TurnCounted most given fs e left b
+    go : (next : TreeNext) → tree_enter given fs ≡ next → Same next 0 → tree_then next (tree_run most p.0) ≡ TreeEnds e left b → TurnCounted most given fs e left b
     go (TreeGoes fs1 n1) is s x =
         let run = run_counted most p.0 fs1 n1 (omega arith) x in
         record { within = run.within; full = run.full; other = λ other no le. (p.0, ap (λ z. tree_then z (tree_run other p.0)) is ∙ run.other other no le) }
@@ -198,7 +198,7 @@ tree_counted most given fs {e} {left} {b} p = go (tree_begin given fs) refl (beg
         let ends : n1 ≡ b = cc in
         let eq = s.0 in
         record { within = omega arith; full = λ z. absurd (s.1 (ex ∙ z)); other = λ other no le. (0, ap (λ z. tree_then z (tree_run other 0)) is ∙ x) }
-    go TreeBad is s x = absurd (cc)
+    go TreeNoStep is s x = absurd (cc)
 
 -- a turn is the same where as many statements may begin as it begins, but one at the least
 pub turn_counted : (most : ℕ) (given : Given) (fs : List TreeFrame) {e : Exit} {left : List TreeFrame} {b : ℕ} → 1 ≤ most → TreeReaches most given fs (TreeEnds e left b) → TreeReaches (max 1 b) given fs (TreeEnds e left b) × (e ≡ Slice → max 1 b ≡ most) × (max 1 b ≤ most)

@@ -2,7 +2,7 @@
 use Rattle.std.proofs.Common.{◌⊎◌, inl, inr, ◌≡◌, ℕ, zero, suc, ◌+◌, ◌<◌, ◌≤◌, List, [], ◌∷◌, Option, Some, None, refl, sym, ◌∙◌, subst, arith, Bool, true, false}
 use Rattle.std.specs.Prelude.{nat_lt, if◌then◌else◌}
 use Rattle.std.proofs.lemmas.Bool.{ltb-true}
-use Rattle.sw_thin.specs.ThinTree.{Expr, Int as IntExpr, Str as StrExpr, Var as VarExpr, Add as AddExpr}
+use Rattle.sw_thin.specs.Program.{Expr, Int as IntExpr, Str as StrExpr, Var as VarExpr, Add as AddExpr}
 use Rattle.sw_job.specs.declared.value.Value.{Value}
 use Rattle.sw_job.specs.declared.value.Value.TheVariants.{Void}
 use Rattle.sw_job.specs.declared.turn.Frame.{Frame}
@@ -11,8 +11,8 @@ use Rattle.sw_job.specs.declared.turn.Exit.TheVariants.{Ask, Slice}
 use Rattle.sw_job.specs.declared.code.FuncCode.{FuncCode}
 use Rattle.sw_job.specs.Machine.{CodeEnds, CodeStuck, code_run}
 use Rattle.sw_job.specs.Values.{printed, Outcome, Gives, Traps, Wrong, sum_of}
-use Rattle.sw_thin.specs.Meaning.{Todo, Eval, Exec, DoAdd, DoLet, DoPrint, Await, Forget, Held, Var, Part, Kind, Body, TreeFrame, Fr, TreeNext, TreeGoes, TreeStops, TreeBad, give, look, on_part, with_value, with_outcome, with_text, eval, expand, tree_act, tree_step, TreeEnd, TreeEnds, TreeOpen, TreeStuck, tree_then, tree_run}
-use Rattle.sw_thin.proofs.Track.{below, Good}
+use Rattle.sw_thin.specs.Meaning.{Todo, Eval, Exec, DoAdd, DoLet, DoPrint, Await, Forget, Held, Var, Part, Kind, Body, TreeFrame, Fr, TreeNext, TreeGoes, TreeStops, TreeNoStep, give, lookup, on_part, with_value, with_outcome, with_text, eval, expand, tree_act, tree_step, TreeEnd, TreeEnds, TreeOpen, TreeStuck, tree_then, tree_run}
+use Rattle.sw_thin.proofs.Track.{below, Simulates}
 use Rattle.sw_thin.proofs.Follow.{Comes, Follows}
 use Rattle.sw_thin.proofs.Cases.{step_follows}
 
@@ -44,7 +44,7 @@ weight (Fr k h t ∷ fs) = 1 + weigh_all t + weight fs
 abbrev pub Falls : ℕ → TreeNext → ℕ → ℕ → Type 0
 Falls max (TreeGoes fs n') w n = ((n' ≡ n) × (weight fs < w)) ⊎ ((n < max) × (n' ≡ n + 1))
 Falls max (TreeStops e fs n') w n = Unit {0}
-Falls max TreeBad w n = Unit {0}
+Falls max TreeNoStep w n = Unit {0}
 
 part_falls : (max : ℕ) (h : List Held) (go : Value → List Held → TreeNext) (w n : ℕ) → ((v : Value) (h1 : List Held) → Falls max (go v h1) w n) → Falls max (on_part h go) w n
 part_falls max [] go w n f = tt
@@ -73,7 +73,7 @@ give_falls max v (Fr k h (i ∷ t) ∷ fs) w n l = tt
 eval_falls : (max : ℕ) (e : Expr) (k : Kind) (h : List Held) (t : List Todo) (fs : List TreeFrame) (n : ℕ) → Falls max (eval e k h t fs n) (weight (Fr k h (Eval e ∷ t) ∷ fs)) n
 eval_falls max (IntExpr m) k h t fs n = inl (refl, omega arith)
 eval_falls max (StrExpr text) k h t fs n = inl (refl, omega arith)
-eval_falls max (VarExpr x) k h t fs n = value_falls max (look x h) (λ v. TreeGoes (Fr k (Part v ∷ h) t ∷ fs) n) _ n (λ v. inl (refl, omega arith))
+eval_falls max (VarExpr x) k h t fs n = value_falls max (lookup x h) (λ v. TreeGoes (Fr k (Part v ∷ h) t ∷ fs) n) _ n (λ v. inl (refl, omega arith))
 eval_falls max (AddExpr a b) k h t fs n = inl (refl, omega arith)
 
 act_falls : (max : ℕ) (i : Todo) (k : Kind) (h : List Held) (t : List Todo) (fs : List TreeFrame) (n : ℕ) → Falls max (tree_act max i k h t fs n) (weight (Fr k h (i ∷ t) ∷ fs)) n
@@ -114,7 +114,7 @@ over_step max n fs ih next = go (tree_step max fs n) refl (step_falls max fs n)
     go (TreeGoes fs1 n1) e (inl f) = let o = ih fs1 f.1 in through (TreeGoes fs1 n1) e o.0 (subst (λ x. IsOver (tree_run max o.0 fs1 x)) (sym f.0) o.1)
     go (TreeGoes fs1 n1) e (inr f) = let o = next fs1 f.0 in through (TreeGoes fs1 n1) e o.0 (subst (λ x. IsOver (tree_run max o.0 fs1 x)) (sym f.1) o.1)
     go (TreeStops x fs1 n1) e f = through (TreeStops x fs1 n1) e 0 tt
-    go TreeBad e f = through TreeBad e 0 tt
+    go TreeNoStep e f = through TreeNoStep e 0 tt
 
 -- with this weight to the next statement
 over_weight : (max n : ℕ) → ((fs1 : List TreeFrame) → n < max → Over max fs1 (n + 1)) → (w : ℕ) (fs : List TreeFrame) → weight fs ≤ w → Over max fs n
@@ -128,7 +128,7 @@ over max (suc d) n fs l = over_weight max n (λ fs1 lt. over max d (n + 1) fs1 (
 
 -- what the code does where the tree's run ends so
 abbrev pub RunFollows : List FuncCode → ℕ → TreeEnd → Frame → List Frame → ℕ → Type 0
-RunFollows code max (TreeEnds e fs n') m ms n = (ms' : List Frame) × (j : ℕ) × (code_run code max j m ms n ≡ CodeEnds e ms' n') × below code (Good code fs) fs ms'
+RunFollows code max (TreeEnds e fs n') m ms n = (ms' : List Frame) × (j : ℕ) × (code_run code max j m ms n ≡ CodeEnds e ms' n') × below code (Simulates code fs) fs ms'
 RunFollows code max TreeStuck m ms n = (j : ℕ) × (code_run code max j m ms n ≡ CodeStuck)
 RunFollows code max TreeOpen m ms n = Unit {0}
 
@@ -137,11 +137,11 @@ run_on code max (TreeEnds e fs x) a f = let b = a.by f.1 in (f.0, b.0, b.1 ∙ f
 run_on code max TreeStuck a f = let b = a.by f.0 in (b.0, b.1 ∙ f.1)
 run_on code max TreeOpen a f = tt
 
-pub run_follows : (code : List FuncCode) (max steps : ℕ) (fs : List TreeFrame) (m : Frame) (ms : List Frame) (n : ℕ) → Good code fs m ms → RunFollows code max (tree_run max steps fs n) m ms n
+pub run_follows : (code : List FuncCode) (max steps : ℕ) (fs : List TreeFrame) (m : Frame) (ms : List Frame) (n : ℕ) → Simulates code fs m ms → RunFollows code max (tree_run max steps fs n) m ms n
 run_follows code max zero fs m ms n g = tt
 run_follows code max (suc steps) fs m ms n g = go (tree_step max fs n) (λ fs1 m1 ms1 n1 g1. run_follows code max steps fs1 m1 ms1 n1 g1) (step_follows code max fs m ms n g)
   where
-    go : (r : TreeNext) → ((fs1 : List TreeFrame) (m1 : Frame) (ms1 : List Frame) (n1 : ℕ) → Good code fs1 m1 ms1 → RunFollows code max (tree_run max steps fs1 n1) m1 ms1 n1) → Follows code max r m ms n → RunFollows code max (tree_then r (tree_run max steps)) m ms n
+    go : (r : TreeNext) → ((fs1 : List TreeFrame) (m1 : Frame) (ms1 : List Frame) (n1 : ℕ) → Simulates code fs1 m1 ms1 → RunFollows code max (tree_run max steps fs1 n1) m1 ms1 n1) → Follows code max r m ms n → RunFollows code max (tree_then r (tree_run max steps)) m ms n
     go (TreeGoes fs1 n1) ih f = run_on code max (tree_run max steps fs1 n1) f.2 (ih fs1 f.0 f.1 n1 f.3)
     go (TreeStops e fs1 n1) ih f = f
-    go TreeBad ih f = f
+    go TreeNoStep ih f = f

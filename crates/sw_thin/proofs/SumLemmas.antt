@@ -9,7 +9,7 @@ use Rattle.sw_thin.specs.TreeReading.{AllAre, Stops, IsDigits, number_from}
 pub own : IsNumeralModel IsDigits (number_from 0)
 own = numerals_by_fold IsDigits (search rules) number_from (search rules)
 
--- the front of a text whose characters pass a test is one front
+-- the prefix of a text whose characters pass a test is one
 pub one_cut : (test : ℕ → Bool) (n m a b : List ℕ) → AllAre test n → AllAre test m → Stops test a → Stops test b → n ++ a ≡ m ++ b → (n ≡ m) × (a ≡ b)
 one_cut test [] [] a b pn pm sa sb e = (refl, e)
 one_cut test [] (y ∷ m) a b pn pm sa sb e = absurd (false≢true (sym (subst (Stops test) e sa) ∙ pm.0))

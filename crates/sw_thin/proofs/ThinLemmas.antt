@@ -1,12 +1,13 @@
 -- A tree is thin exactly where its `main` has thin statements, few and short enough.
 use Rattle.std.proofs.Common.{◌≡◌, ℕ, ◌<◌, ◌≤◌, List, [], ◌∷◌, ◌++◌, length, refl, sym, ap, ◌∙◌, subst, arith, suc}
 use Rattle.std.specs.List.{flat_map}
+use Rattle.sw_base.specs.Limits.{longest_source}
 use Rattle.sw_tree.specs.declared.stmt.Stmt.{Stmt as StmtTree}
 use Rattle.sw_tree.specs.declared.decl.Tree.{Tree as File}
-use Rattle.sw_thin.specs.declared.thin.Stmt.{Stmt as CodeStmt}
-use Rattle.sw_thin.specs.ThinTrees.{body_of}
-use Rattle.sw_thin.specs.ThinTree.{Stmt}
-use Rattle.sw_thin.specs.ShortestText.{first_line, last_line, lines_text, thin_text}
+use Rattle.sw_thin.specs.declared.program.Stmt.{Stmt as CodeStmt}
+use Rattle.sw_thin.specs.ProgramView.{body_of}
+use Rattle.sw_thin.specs.Program.{Stmt}
+use Rattle.sw_thin.specs.ShortestText.{first_line, last_line, lines_text, shortest_text}
 use Rattle.sw_thin.specs.Thin.{AreStmtsOf, HasMain, IsThinTree, IsNoThinTree}
 use Rattle.sw_thin.specs.TreeReading.{lets_after, AreThin, line_of}
 use Rattle.sw_thin.proofs.BodyLemmas.{AreThinAfter, first_thin, rest_thin, none_after, more_after, all_after, after_none}
@@ -46,15 +47,15 @@ lines_same (stmt ∷ body) = ap (λ l. line_of stmt ++ l) (lines_same body)
 
 -- the main is one, and its statements are those of this body
 pub is_thin_tree : (tree : File) (trees : List StmtTree) (body : List CodeStmt) (text : List ℕ) → HasMain trees tree → AreThin 0 (body_of body) trees → length trees ≤ 90000
-    → text ≡ first_line ++ (flat_map line_of body ++ last_line) → length text ≤ 1048576 → IsThinTree (body_of body) tree
+    → text ≡ first_line ++ (flat_map line_of body ++ last_line) → length text ≤ longest_source → IsThinTree (body_of body) tree
 is_thin_tree tree trees body text main thin few is short =
     let of = stmts_of 0 (body_of body) trees thin in
     let same = as_many (body_of body) trees of in
-    let written : text ≡ thin_text (body_of body) = is ∙ ap (λ l. first_line ++ (l ++ last_line)) (lines_same body) in (
+    let written : text ≡ shortest_text (body_of body) = is ∙ ap (λ l. first_line ++ (l ++ last_line)) (lines_same body) in (
       record {
         each = after_none (body_of body) (after_of 0 (body_of body) trees thin);
         few = omega (arith, same, few);
-        short = subst (λ t. length t ≤ 1048576) written short;
+        short = subst (λ t. length t ≤ longest_source) written short;
       },
       trees,
       main,
@@ -63,7 +64,7 @@ is_thin_tree tree trees body text main thin few is short =
 
 -- what is so of each thin tree's main
 pub of_thin_tree : (tree : File) (body : List Stmt) → IsThinTree body tree
-    → (trees : List StmtTree) × HasMain trees tree × AreThin 0 body trees × (length trees ≤ 90000) × (length (thin_text body) ≤ 1048576)
+    → (trees : List StmtTree) × HasMain trees tree × AreThin 0 body trees × (length trees ≤ 90000) × (length (shortest_text body) ≤ longest_source)
 of_thin_tree tree body (thin, trees, main, of) =
     let many = as_many body trees of in
     let few = thin.few in
@@ -100,10 +101,10 @@ none_thin tree trees main none body thin =
     none body (subst (λ l. AreThin 0 body l) (same_main tree h.0 trees h.1 main) h.2)
 
 pub too_long : (tree : File) (trees : List StmtTree) (found : List CodeStmt) (text : List ℕ) → HasMain trees tree → AreThin 0 (body_of found) trees
-    → text ≡ first_line ++ (flat_map line_of found ++ last_line) → 1048576 < length text → IsNoThinTree tree
+    → text ≡ first_line ++ (flat_map line_of found ++ last_line) → longest_source < length text → IsNoThinTree tree
 too_long tree trees found text main own_thin is long body thin =
     let h = of_thin_tree tree body thin in
     let one = one_body 0 body (body_of found) trees (subst (λ l. AreThin 0 body l) (same_main tree h.0 trees h.1 main) h.2) own_thin in
-    let written : text ≡ thin_text (body_of found) = is ∙ ap (λ l. first_line ++ (l ++ last_line)) (lines_same found) in
-    let short : length text ≤ 1048576 = subst (λ t. length t ≤ 1048576) (sym (written ∙ ap thin_text (sym one))) h.4 in
+    let written : text ≡ shortest_text (body_of found) = is ∙ ap (λ l. first_line ++ (l ++ last_line)) (lines_same found) in
+    let short : length text ≤ longest_source = subst (λ t. length t ≤ longest_source) (sym (written ∙ ap shortest_text (sym one))) h.4 in
     absurd (omega (arith, short, long))

@@ -12,9 +12,9 @@ use Rattle.sw_tree.specs.declared.expr.Literal.{Literal}
 use Rattle.sw_tree.specs.declared.expr.Literal.TheVariants as literal
 use Rattle.sw_tree.specs.declared.expr.BinaryOperator.{BinaryOperator}
 use Rattle.std.proofs.lemmas.List.{map_push}
-use Rattle.sw_thin.specs.ThinTrees.{stmt_of, body_of}
-use Rattle.sw_thin.specs.declared.thin.Stmt as c
-use Rattle.sw_thin.specs.ThinTree.{Expr, Int, Str, Var, Add, Stmt, Let, Print}
+use Rattle.sw_thin.specs.ProgramView.{stmt_of, body_of}
+use Rattle.sw_thin.specs.declared.program.Stmt as c
+use Rattle.sw_thin.specs.Program.{Expr, Int, Str, Var, Add, Stmt, Let, Print}
 use Rattle.sw_tree.specs.declared.stmt.Stmt.{Stmt as StmtTree}
 use Rattle.sw_tree.specs.declared.stmt.Stmt.TheVariants as s
 use Rattle.sw_tree.specs.declared.expr.Binding.{Binding}
@@ -174,24 +174,24 @@ no_print tree call is none (Print e) (c, v, p, print, _) = none v (subst (λ t. 
 -- ---- the statements of a body
 
 -- these statements are those of the trees up to `rest`, after which `k` variables are declared
-pub record Told (trees rest : List StmtTree) (at k : ℕ) (body : List Stmt) : Type 0 where
+pub record ReadSoFar (trees rest : List StmtTree) (at k : ℕ) (body : List Stmt) : Type 0 where
   pub few : k ≤ at
   pub goes : (more : List Stmt) → AreThin k more rest → AreThin 0 (body ++ more) trees
   pub only : (whole : List Stmt) → AreThin 0 whole trees → (more : List Stmt) × (whole ≡ body ++ more) × AreThin k more rest
 
-pub told_none : (trees : List StmtTree) → Told trees trees 0 0 []
-told_none trees = record { few = omega arith; goes = λ more p. p; only = λ whole p. (whole, refl, p) }
+pub read_none : (trees : List StmtTree) → ReadSoFar trees trees 0 0 []
+read_none trees = record { few = omega arith; goes = λ more p. p; only = λ whole p. (whole, refl, p) }
 
 lets_few : (k at : ℕ) (stmt : Stmt) → k ≤ at → lets_after k stmt ≤ at + 1
 lets_few k at (Let n e) h = omega (arith, h)
 lets_few k at (Print e) h = omega (arith, h)
 
-pub told_more : (trees rest : List StmtTree) (tree : StmtTree) (at k : ℕ) (body : List Stmt) (stmt : Stmt) → Told trees (tree ∷ rest) at k body → IsStmtOf stmt tree → IsThinStmt k stmt
-    → Told trees rest (at + 1) (lets_after k stmt) (body ++ stmt ∷ [])
-told_more trees rest tree at k body stmt told of thin = record {
-  few = lets_few k at stmt told.few;
-  goes = λ more p. subst (λ b. AreThin 0 b trees) (sym (append_assoc body (stmt ∷ []) more)) (told.goes (stmt ∷ more) ((of, thin), p));
-  only = λ whole p. split whole (told.only whole p);
+pub read_more : (trees rest : List StmtTree) (tree : StmtTree) (at k : ℕ) (body : List Stmt) (stmt : Stmt) → ReadSoFar trees (tree ∷ rest) at k body → IsStmtOf stmt tree → IsThinStmt k stmt
+    → ReadSoFar trees rest (at + 1) (lets_after k stmt) (body ++ stmt ∷ [])
+read_more trees rest tree at k body stmt so_far of thin = record {
+  few = lets_few k at stmt so_far.few;
+  goes = λ more p. subst (λ b. AreThin 0 b trees) (sym (append_assoc body (stmt ∷ []) more)) (so_far.goes (stmt ∷ more) ((of, thin), p));
+  only = λ whole p. split whole (so_far.only whole p);
 }
   where
     split : (whole : List Stmt) → (more : List Stmt) × (whole ≡ body ++ more) × AreThin k more (tree ∷ rest)
@@ -201,18 +201,18 @@ told_more trees rest tree at k body stmt told of thin = record {
         let same = one_stmt other stmt tree p.0.0 of in
         (more, e ∙ ap (λ z. body ++ z ∷ more) same ∙ sym (append_assoc body (stmt ∷ []) more), subst (λ z. AreThin (lets_after k z) more rest) same p.1)
 
-pub told_stops : (trees rest : List StmtTree) (tree : StmtTree) (at k : ℕ) (body : List Stmt) → Told trees (tree ∷ rest) at k body → ((stmt : Stmt) → IsStmtOf stmt tree → IsThinStmt k stmt → ⊥)
+pub read_stops : (trees rest : List StmtTree) (tree : StmtTree) (at k : ℕ) (body : List Stmt) → ReadSoFar trees (tree ∷ rest) at k body → ((stmt : Stmt) → IsStmtOf stmt tree → IsThinStmt k stmt → ⊥)
     → (whole : List Stmt) → AreThin 0 whole trees → ⊥
-told_stops trees rest tree at k body told none whole p = stop (told.only whole p)
+read_stops trees rest tree at k body so_far none whole p = stop (so_far.only whole p)
   where
     stop : (more : List Stmt) × (whole ≡ body ++ more) × AreThin k more (tree ∷ rest) → ⊥
     stop ([], e, p) = p
     stop (other ∷ more, e, p) = none other p.0.0 p.0.1
 
-pub told_all : (trees : List StmtTree) (at k : ℕ) (body : List Stmt) → Told trees [] at k body → AreThin 0 body trees
-told_all trees at k body told = subst (λ b. AreThin 0 b trees) (append-nil body) (told.goes [] tt)
+pub read_all : (trees : List StmtTree) (at k : ℕ) (body : List Stmt) → ReadSoFar trees [] at k body → AreThin 0 body trees
+read_all trees at k body so_far = subst (λ b. AreThin 0 b trees) (append-nil body) (so_far.goes [] tt)
 
--- what is left from a place on, where something stands
+-- what is left from an index on, where there is something
 pub left_at : (trees : List StmtTree) (at : ℕ) (tree : StmtTree) → at < length trees → tree ≡ get_or trees at tree → drop at trees ≡ tree ∷ drop (at + 1) trees
 left_at trees at tree lt is =
     let next : suc at ≡ at + 1 = omega arith in
@@ -225,24 +225,24 @@ left_none (t ∷ trees) zero h = absurd (omega (arith, h))
 left_none (t ∷ trees) (suc at) h = left_none trees at (omega (arith, h))
 
 -- the same, as the loop over the trees has it
-abbrev pub ToldAt : List StmtTree → ℕ → ℕ → List Stmt → Type 0
-ToldAt trees at k body = Told trees (drop at trees) at k body
+abbrev pub ReadUpTo : List StmtTree → ℕ → ℕ → List Stmt → Type 0
+ReadUpTo trees at k body = ReadSoFar trees (drop at trees) at k body
 
-told_here : (trees rest rest' : List StmtTree) (at k : ℕ) (body : List Stmt) → rest ≡ rest' → Told trees rest at k body → Told trees rest' at k body
-told_here trees rest rest' at k body e told = subst (λ r. Told trees r at k body) e told
+read_here : (trees rest rest' : List StmtTree) (at k : ℕ) (body : List Stmt) → rest ≡ rest' → ReadSoFar trees rest at k body → ReadSoFar trees rest' at k body
+read_here trees rest rest' at k body e so_far = subst (λ r. ReadSoFar trees r at k body) e so_far
 
-pub at_more : (trees : List StmtTree) (at k k' : ℕ) (tree : StmtTree) (body body' : List Stmt) (stmt : Stmt) → ToldAt trees at k body → at < length trees → tree ≡ get_or trees at tree
-    → IsStmtOf stmt tree → IsThinStmt k stmt → k' ≡ lets_after k stmt → body' ≡ body ++ stmt ∷ [] → ToldAt trees (at + 1) k' body'
-at_more trees at k k' tree body body' stmt told lt is of thin ek eb =
-    subst (λ n. ToldAt trees (at + 1) n body') (sym ek) (subst (λ b. ToldAt trees (at + 1) (lets_after k stmt) b) (sym eb)
-    (told_more trees (drop (at + 1) trees) tree at k body stmt (told_here trees _ _ at k body (left_at trees at tree lt is) told) of thin))
+pub at_more : (trees : List StmtTree) (at k k' : ℕ) (tree : StmtTree) (body body' : List Stmt) (stmt : Stmt) → ReadUpTo trees at k body → at < length trees → tree ≡ get_or trees at tree
+    → IsStmtOf stmt tree → IsThinStmt k stmt → k' ≡ lets_after k stmt → body' ≡ body ++ stmt ∷ [] → ReadUpTo trees (at + 1) k' body'
+at_more trees at k k' tree body body' stmt so_far lt is of thin ek eb =
+    subst (λ n. ReadUpTo trees (at + 1) n body') (sym ek) (subst (λ b. ReadUpTo trees (at + 1) (lets_after k stmt) b) (sym eb)
+    (read_more trees (drop (at + 1) trees) tree at k body stmt (read_here trees _ _ at k body (left_at trees at tree lt is) so_far) of thin))
 
-pub at_stop : (trees : List StmtTree) (at k : ℕ) (tree : StmtTree) (body : List Stmt) → ToldAt trees at k body → at < length trees → tree ≡ get_or trees at tree
+pub at_stop : (trees : List StmtTree) (at k : ℕ) (tree : StmtTree) (body : List Stmt) → ReadUpTo trees at k body → at < length trees → tree ≡ get_or trees at tree
     → ((stmt : Stmt) → IsStmtOf stmt tree → IsThinStmt k stmt → ⊥) → (whole : List Stmt) → AreThin 0 whole trees → ⊥
-at_stop trees at k tree body told lt is none = told_stops trees (drop (at + 1) trees) tree at k body (told_here trees _ _ at k body (left_at trees at tree lt is) told) none
+at_stop trees at k tree body so_far lt is none = read_stops trees (drop (at + 1) trees) tree at k body (read_here trees _ _ at k body (left_at trees at tree lt is) so_far) none
 
-pub at_end : (trees : List StmtTree) (at k : ℕ) (body : List Stmt) → ToldAt trees at k body → length trees ≤ at → AreThin 0 body trees
-at_end trees at k body told h = told_all trees at k body (told_here trees _ _ at k body (left_none trees at h) told)
+pub at_end : (trees : List StmtTree) (at k : ℕ) (body : List Stmt) → ReadUpTo trees at k body → length trees ≤ at → AreThin 0 body trees
+at_end trees at k body so_far h = read_all trees at k body (read_here trees _ _ at k body (left_none trees at h) so_far)
 
 pub some_of : {A : Type 0} (N : Type 0) (S : A → Type 0) (o : Option A) (x : A) → MatchOption o N S → o ≡ Some x → S x
 some_of {A} N S o x h e = subst (λ (o : Option A). MatchOption o N S) e h

@@ -8,9 +8,9 @@ use Rattle.sw_job.specs.declared.turn.Frame.{Frame}
 use Rattle.sw_job.specs.declared.code.FuncCode.{FuncCode}
 use Rattle.sw_job.specs.Machine.{fetch, is_take}
 use Rattle.sw_thin.specs.Meaning.{Todo, Eval, Exec, DoAdd, DoLet, DoPrint, Await, Forget, Held, Var, Part, Kind, Body, TreeFrame, Fr}
-use Rattle.sw_thin.specs.Codes.{Scope, expr_code, stmt_code, scope_after}
+use Rattle.sw_thin.specs.Lowering.{Scope, expr_code, stmt_code, scope_after}
 
--- the instructions stand in the code at this place
+-- the instructions stand in the code at this address
 abbrev pub HasAt : List Instr → ℕ → List Instr → Type 0
 HasAt instrs p [] = Unit {0}
 HasAt instrs p (i ∷ is) = (slice_get instrs p ≡ Some i) × HasAt instrs (p + 1) is
@@ -40,7 +40,7 @@ after DoPrint sc = on_none sc (λ rest. Some (None ∷ rest))
 after Await sc = Some (None ∷ sc)
 after Forget sc = on_none sc (λ rest. Some rest)
 
--- what is left to do stands from this place to the place r, with these operands of the frame at first and those at
+-- what is left to do stands from this address to the address r, with these operands of the frame at first and those at
 -- last; out are the operands beneath them
 pub data Track (instrs : List Instr) (out : Scope) (r : ℕ) (last : Scope) : ℕ → Scope → List Todo → Type 0 where
   ends : {p : ℕ} {sc : Scope} → p ≡ r → sc ≡ last → Track instrs out r last p sc []
@@ -76,7 +76,7 @@ abbrev pub below : List FuncCode → (Frame → List Frame → Type 0) → List 
 below code g [] [] = Unit {0}
 below code g [] (m ∷ ms) = ⊥
 below code g (t ∷ ts) [] = ⊥
-below code g (t ∷ ts) (m ∷ ms) = g m ms × (is_take (fetch code m.func.0 m.place) ≡ waits (t ∷ ts))
+below code g (t ∷ ts) (m ∷ ms) = g m ms × (is_take (fetch code m.func.0 m.address) ≡ waits (t ∷ ts))
 
 -- what the end of a body leads to, where g says that the frames below it stand
 pub record AtBody (code : List FuncCode) (instrs : List Instr) (ts : List TreeFrame) (g : Frame → List Frame → Type 0) (r : ℕ) (tail : List Operand) (ms : List Frame) : Type 0 where
@@ -88,7 +88,7 @@ pub record AtBody (code : List FuncCode) (instrs : List Instr) (ts : List TreeFr
 abbrev pub AtEnd : List FuncCode → List Instr → Kind → List TreeFrame → (Frame → List Frame → Type 0) → ℕ → ℕ → Scope → List Operand → List Frame → Type 0
 AtEnd code instrs Body ts g f r last tail ms = AtBody code instrs ts g r tail ms
 
--- a frame of the tree stands at a place of a func, with what is left of both
+-- a frame of the tree stands at an address of a func, with what is left of both
 pub record Stands (code : List FuncCode) (k : Kind) (h : List Held) (t : List Todo) (ts : List TreeFrame) (g : Frame → List Frame → Type 0) (f p : ℕ) (ops : List Operand) (ms : List Frame) : Type 0 where
   pub func : FuncCode
   pub in_code : slice_get code f ≡ Some func
@@ -100,10 +100,10 @@ pub record Stands (code : List FuncCode) (k : Kind) (h : List Held) (t : List To
   pub at_end : AtEnd code func.instrs k ts g f r last tail ms
 
 -- frames of the tree stand in a frame of the code and its callers
-abbrev pub Good : List FuncCode → List TreeFrame → Frame → List Frame → Type 0
-Good code [] m ms = ⊥
-Good code (Fr k h t ∷ ts) m ms = Stands code k h t ts (Good code ts) m.func.0 m.place m.operands ms
+abbrev pub Simulates : List FuncCode → List TreeFrame → Frame → List Frame → Type 0
+Simulates code [] m ms = ⊥
+Simulates code (Fr k h t ∷ ts) m ms = Stands code k h t ts (Simulates code ts) m.func.0 m.address m.operands ms
 
 -- frames of the tree and frames of the code, after an exit and before a turn
 abbrev pub Left : List FuncCode → List Frame → List TreeFrame → Type 0
-Left code ms fs = below code (Good code fs) fs ms
+Left code ms fs = below code (Simulates code fs) fs ms

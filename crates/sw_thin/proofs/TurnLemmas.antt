@@ -5,11 +5,11 @@ use Rattle.sw_job.specs.declared.turn.Exit.{Exit}
 use Rattle.sw_job.specs.declared.turn.Exit.TheVariants.{Ask, Return, Trap, Slice}
 use Rattle.sw_job.specs.declared.turn.Given.{Given}
 use Rattle.sw_job.specs.declared.code.FuncCode.{FuncCode}
-use Rattle.sw_job.specs.Machine.{code_begin, code_run, code_step, code_then}
-use Rattle.sw_job.specs.Typed.{TypedFrames, TypedStart, all_ahead, LeavesFewer, Safe, EachStepIsSafe, Begins, EachStartBegins}
+use Rattle.sw_job.specs.Machine.{code_enter, code_run, code_step, code_then}
+use Rattle.sw_job.specs.Typed.{TypedFrames, TypedStart, all_ahead, LeavesFewer, Safe, EachStepIsSafe, SafeEntry, EachEntryIsSafe}
 use Rattle.sw_thin.specs.declared.machine.Next.{Next}
 use Rattle.sw_thin.specs.declared.machine.Next.TheVariants.{Goes, Stops}
-use Rattle.sw_thin.specs.Turn.{IsNext, RunEnds, StepTo, BeginTo}
+use Rattle.sw_thin.specs.Turn.{IsNext, RunEnds, StepTo, EnterTo}
 
 -- a run of typed frames has come to these, from where it goes on
 pub record Comes (code : List FuncCode) (max : ℕ) (m0 : Frame) (ms0 : List Frame) (m : Frame) (ms : List Frame) (begun : ℕ) : Type 0 where
@@ -22,9 +22,9 @@ pub step_to : (code : List FuncCode) (max : ℕ) (m : Frame) (ms : List Frame) (
 step_to code max m ms begun answer frames safe typed counted next =
     record { step = next; safe = subst (λ z. Safe code max (all_ahead code (m ∷ ms)) begun z) next (safe max m ms begun counted typed) }
 
-pub begin_to : (code : List FuncCode) (given : Given) (start : List Frame) (answer : Next) (frames : List Frame) → EachStartBegins code → TypedStart code given start → IsNext (code_begin code given start) answer frames → BeginTo code given start answer frames
-begin_to code given start answer frames begins typed next =
-    record { begin = next; begins = subst (λ z. Begins code (all_ahead code start) z) next (begins given start typed) }
+pub enter_to : (code : List FuncCode) (given : Given) (start : List Frame) (answer : Next) (frames : List Frame) → EachEntryIsSafe code → TypedStart code given start → IsNext (code_enter code given start) answer frames → EnterTo code given start answer frames
+enter_to code given start answer frames safe typed next =
+    record { enter = next; safe = subst (λ z. SafeEntry code (all_ahead code start) z) next (safe given start typed) }
 
 pub comes_here : (code : List FuncCode) (max : ℕ) (m : Frame) (ms : List Frame) → TypedFrames code m ms → Comes code max m ms m ms 0
 comes_here code max m ms typed = record { run = λ steps. (steps, refl); frames = typed; nearer = omega arith; counted = omega arith }

@@ -4,11 +4,11 @@ use Rattle.std.specs.Prelude.{nat_eq}
 use Rattle.std.specs.Cmp.Lexicographic.{pointwise}
 use Rattle.std.proofs.lemmas.Bool.{false≢true}
 use Rattle.std.proofs.lemmas.Slice.Eq.{bytes_eq-Decides}
-use Rattle.sw_thin.specs.ThinTree.{Expr, Int, Str, Var, Add, Stmt, Let, Print}
+use Rattle.sw_thin.specs.Program.{Expr, Int, Str, Var, Add, Stmt, Let, Print}
 use Rattle.sw_job.specs.declared.value.Ty.{Ty}
 use Rattle.sw_job.specs.declared.value.Ty.TheVariants.{Int as IntTy}
 use Rattle.sw_job.specs.Typed.{IsPrintable}
-use Rattle.sw_thin.specs.Codes.{Vars, var_type, type_of, IsTypedExpr, IsTypedStmt, IsTypedBody, vars_after}
+use Rattle.sw_thin.specs.Lowering.{Vars, var_type, type_of, IsTypedExpr, IsTypedStmt, IsTypedBody, vars_after}
 use Rattle.sw_thin.specs.Thin.{IsSum, name_of, IsName, IsThinStmt, IsThin}
 use Rattle.sw_thin.specs.TreeReading.{lets_after}
 use Rattle.sw_thin.proofs.BodyLemmas.{AreThinAfter, first_thin, rest_thin, all_after}

@@ -7,7 +7,7 @@ use Rattle.std.specs.Option.{option_map}
 use Rattle.std.proofs.lemmas.Option.{slice_get-map}
 use Rattle.std.proofs.lemmas.List.{map-append, reverse-append, reverse-reverse, length-reverse}
 use Rattle.std.proofs.Math.Seq.{take-append_seam}
-use Rattle.sw_thin.specs.ThinTree.{Expr, Stmt, Func, Let as LetStmt, Print as PrintStmt, Int as IntExpr, Str as StrExpr, Var as VarExpr, Add as AddExpr}
+use Rattle.sw_thin.specs.Program.{Expr, Stmt, Func, Let as LetStmt, Print as PrintStmt, Int as IntExpr, Str as StrExpr, Var as VarExpr, Add as AddExpr}
 use Rattle.sw_job.specs.declared.value.Ty.{Ty}
 use Rattle.sw_job.specs.declared.value.Ty.TheVariants.{Int as IntTy, Void as VoidTy}
 use Rattle.sw_job.specs.declared.instr.Instr.{Instr}
@@ -16,9 +16,9 @@ use Rattle.sw_job.specs.declared.code.Shape.{Shape}
 use Rattle.sw_job.specs.declared.code.FuncCode.{FuncCode}
 use Rattle.sw_job.specs.Machine.{instr_in, fetch, is_take}
 use Rattle.sw_job.specs.Typed.{types_in, shape_in, shape_at, result_in, result_of, Goes, Waits, Agrees, IsTyped}
-use Rattle.sw_thin.specs.Codes.{Scope, depth_of, scope_after, expr_code, stmt_code, body_code, Vars, var_type, type_of, expr_shapes, stmt_shapes, body_shapes, expr_in, vars_after, declared_types, func_code, IsTypedExpr, IsTypedStmt, IsTypedBody}
+use Rattle.sw_thin.specs.Lowering.{Scope, depth_of, scope_after, expr_code, stmt_code, body_code, Vars, var_type, type_of, expr_shapes, stmt_shapes, body_shapes, expr_in, vars_after, declared_types, func_code, IsTypedExpr, IsTypedStmt, IsTypedBody}
 
--- these instructions stand at a place, with these operand types before them
+-- these instructions stand at an address, with these operand types before them
 abbrev pub Stand : List FuncCode → ℕ → ℕ → List Instr → List (List Ty) → Type 0
 Stand code f p [] [] = Unit {0}
 Stand code f p (i ∷ is) (types ∷ shapes) = (fetch code f p ≡ Some i) × (shape_at code f p ≡ Some types) × Stand code f (p + 1) is shapes
@@ -52,7 +52,7 @@ abbrev pub body_types : Vars → List Stmt → List (List Ty)
 body_types vars [] = seen vars ∷ []
 body_types vars (s ∷ body) = stmt_types (seen vars) (type_of vars (expr_in s)) s ++ body_types (vars_after vars s) body
 
--- the shapes tell these types
+-- the shapes are of these types
 expr_told : (all : List Ty) (n : ℕ) (parts : List Ty) (e : Expr) → map (types_in all) (expr_shapes n parts e) ≡ expr_types (parts ++ reverse (take n all)) e
 expr_told all n parts (IntExpr m) = refl
 expr_told all n parts (StrExpr text) = refl
@@ -61,8 +61,8 @@ expr_told all n parts (AddExpr a b) =
     let last : Shape = record { variables = n; parts = IntTy ∷ IntTy ∷ parts } in
     let types = parts ++ reverse (take n all) in
     let sb = expr_shapes n (IntTy ∷ parts) b in
-    let back : map (types_in all) (sb ++ last ∷ []) ≡ expr_types (IntTy ∷ types) b ++ (IntTy ∷ IntTy ∷ types) ∷ [] = map-append (types_in all) sb (last ∷ []) ∙ ap (λ z. z ++ (IntTy ∷ IntTy ∷ types) ∷ []) (expr_told all n (IntTy ∷ parts) b) in
-    map-append (types_in all) (expr_shapes n parts a) (sb ++ last ∷ []) ∙ ap (λ z. z ++ map (types_in all) (sb ++ last ∷ [])) (expr_told all n parts a) ∙ ap (λ z. expr_types types a ++ z) back
+    let suffix : map (types_in all) (sb ++ last ∷ []) ≡ expr_types (IntTy ∷ types) b ++ (IntTy ∷ IntTy ∷ types) ∷ [] = map-append (types_in all) sb (last ∷ []) ∙ ap (λ z. z ++ (IntTy ∷ IntTy ∷ types) ∷ []) (expr_told all n (IntTy ∷ parts) b) in
+    map-append (types_in all) (expr_shapes n parts a) (sb ++ last ∷ []) ∙ ap (λ z. z ++ map (types_in all) (sb ++ last ∷ [])) (expr_told all n parts a) ∙ ap (λ z. expr_types types a ++ z) suffix
 
 stmt_told : (all : List Ty) (n : ℕ) (t : Ty) (s : Stmt) → map (types_in all) (stmt_shapes n t s) ≡ stmt_types (reverse (take n all)) t s
 stmt_told all n t (LetStmt x e) = ap (λ z. reverse (take n all) ∷ z) (expr_told all n [] e)
@@ -130,19 +130,19 @@ sees_stmt vars sc (LetStmt y e) s = record { at = λ x u f. go x u (pointwise na
     go x u false f = get_next (type_of vars e) (seen vars) (depth_of x sc) ∙ s.at x u f
 
 module _ (code : List FuncCode) (f : ℕ) where
-  stand_front : (p : ℕ) (is more : List Instr) (shapes rest : List (List Ty)) → length is ≡ length shapes → Stand code f p (is ++ more) (shapes ++ rest) → Stand code f p is shapes
-  stand_front p [] more [] rest e s = tt
-  stand_front p [] more (types ∷ shapes) rest e s = absurd (omega arith)
-  stand_front p (i ∷ is) more [] rest e s = absurd (omega arith)
-  stand_front p (i ∷ is) more (types ∷ shapes) rest e s = (s.0, s.1, stand_front (p + 1) is more shapes rest (omega arith) s.2)
+  stand_prefix : (p : ℕ) (is more : List Instr) (shapes rest : List (List Ty)) → length is ≡ length shapes → Stand code f p (is ++ more) (shapes ++ rest) → Stand code f p is shapes
+  stand_prefix p [] more [] rest e s = tt
+  stand_prefix p [] more (types ∷ shapes) rest e s = absurd (omega arith)
+  stand_prefix p (i ∷ is) more [] rest e s = absurd (omega arith)
+  stand_prefix p (i ∷ is) more (types ∷ shapes) rest e s = (s.0, s.1, stand_prefix (p + 1) is more shapes rest (omega arith) s.2)
 
-  stand_back : (p : ℕ) (is more : List Instr) (shapes rest : List (List Ty)) → length is ≡ length shapes → Stand code f p (is ++ more) (shapes ++ rest) → Stand code f (p + length is) more rest
-  stand_back p [] more [] rest e s = let z : p ≡ p + 0 = omega arith in subst (λ n. Stand code f n more rest) z s
-  stand_back p [] more (types ∷ shapes) rest e s = absurd (omega arith)
-  stand_back p (i ∷ is) more [] rest e s = absurd (omega arith)
-  stand_back p (i ∷ is) more (types ∷ shapes) rest e s =
+  stand_suffix : (p : ℕ) (is more : List Instr) (shapes rest : List (List Ty)) → length is ≡ length shapes → Stand code f p (is ++ more) (shapes ++ rest) → Stand code f (p + length is) more rest
+  stand_suffix p [] more [] rest e s = let z : p ≡ p + 0 = omega arith in subst (λ n. Stand code f n more rest) z s
+  stand_suffix p [] more (types ∷ shapes) rest e s = absurd (omega arith)
+  stand_suffix p (i ∷ is) more [] rest e s = absurd (omega arith)
+  stand_suffix p (i ∷ is) more (types ∷ shapes) rest e s =
       let z : p + 1 + length is ≡ p + length (i ∷ is) = omega arith in
-      subst (λ n. Stand code f n more rest) z (stand_back (p + 1) is more shapes rest (omega arith) s.2)
+      subst (λ n. Stand code f n more rest) z (stand_suffix (p + 1) is more shapes rest (omega arith) s.2)
 
   agree_append : (p : ℕ) (is more : List Instr) (shapes rest : List (List Ty)) → AllAgree code f p is shapes → AllAgree code f (p + length is) more rest → AllAgree code f p (is ++ more) (shapes ++ rest)
   agree_append p [] more [] rest a b = let z : p + 0 ≡ p = omega arith in subst (λ n. AllAgree code f n more rest) z b
@@ -162,7 +162,7 @@ module _ (code : List FuncCode) (f : ℕ) where
       let tb = expr_types (IntTy ∷ types) b ++ (IntTy ∷ IntTy ∷ types) ∷ [] in
       expr_starts p sc types a (cb ++ more) (tb ++ rest) (subst (λ z. Stand code f p z (expr_types types a ++ (tb ++ rest))) (append_assoc (expr_code sc a) cb more) (subst (λ z. Stand code f p ((expr_code sc a ++ cb) ++ more) z) (append_assoc (expr_types types a) tb rest) s))
 
-  -- the same where nothing stands behind it
+  -- the same where nothing follows it
   expr_starts_alone : (p : ℕ) (sc : Scope) (types : List Ty) (e : Expr) → Stand code f p (expr_code sc e) (expr_types types e) → Goes code f p types
   expr_starts_alone p sc types (IntExpr m) s = (s.1, ap is_take s.0)
   expr_starts_alone p sc types (StrExpr text) s = (s.1, ap is_take s.0)
@@ -189,14 +189,14 @@ module _ (code : List FuncCode) (f : ℕ) where
       let ta = expr_types types a in
       let tb = expr_types (IntTy ∷ types) b in
       let sum = (IntTy ∷ IntTy ∷ types) ∷ [] in
-      let front = stand_front p ca (cb ++ Add ∷ []) ta (tb ++ sum) (expr_length sc types a) s in
-      let back = stand_back p ca (cb ++ Add ∷ []) ta (tb ++ sum) (expr_length sc types a) s in
-      let middle = stand_front (p + length ca) cb (Add ∷ []) tb sum (expr_length (None ∷ sc) (IntTy ∷ types) b) back in
-      let last = stand_back (p + length ca) cb (Add ∷ []) tb sum (expr_length (None ∷ sc) (IntTy ∷ types) b) back in
+      let prefix = stand_prefix p ca (cb ++ Add ∷ []) ta (tb ++ sum) (expr_length sc types a) s in
+      let suffix = stand_suffix p ca (cb ++ Add ∷ []) ta (tb ++ sum) (expr_length sc types a) s in
+      let middle = stand_prefix (p + length ca) cb (Add ∷ []) tb sum (expr_length (None ∷ sc) (IntTy ∷ types) b) suffix in
+      let last = stand_suffix (p + length ca) cb (Add ∷ []) tb sum (expr_length (None ∷ sc) (IntTy ∷ types) b) suffix in
       let len : p + length (ca ++ (cb ++ Add ∷ [])) ≡ p + length ca + length cb + 1 = omega (arith, length-append ca (cb ++ Add ∷ []), length-append cb (Add ∷ [])) in
-      let after_a : Goes code f (p + length ca) (type_of vars a ∷ types) = subst (λ z. Goes code f (p + length ca) (z ∷ types)) (sym typed.1) (expr_starts (p + length ca) (None ∷ sc) (IntTy ∷ types) b (Add ∷ []) sum back) in
+      let after_a : Goes code f (p + length ca) (type_of vars a ∷ types) = subst (λ z. Goes code f (p + length ca) (z ∷ types)) (sym typed.1) (expr_starts (p + length ca) (None ∷ sc) (IntTy ∷ types) b (Add ∷ []) sum suffix) in
       let after_b : Goes code f (p + length ca + length cb) (type_of vars b ∷ IntTy ∷ types) = subst (λ z. Goes code f (p + length ca + length cb) (z ∷ IntTy ∷ types)) (sym typed.3) (last.1, ap is_take last.0) in
-      let agrees_a = expr_agrees p vars sc types a see typed.0 front after_a in
+      let agrees_a = expr_agrees p vars sc types a see typed.0 prefix after_a in
       let agrees_b = expr_agrees (p + length ca) vars (None ∷ sc) (IntTy ∷ types) b (sees_part vars sc types IntTy see) typed.2 middle after_b in
       agree_append p ca (cb ++ Add ∷ []) ta (tb ++ sum) agrees_a (agree_append (p + length ca) cb (Add ∷ []) tb sum agrees_b ((types, refl, subst (λ n. Goes code f n (IntTy ∷ types)) len g), tt))
 
@@ -211,10 +211,10 @@ module _ (code : List FuncCode) (f : ℕ) where
       let te = expr_types types e in
       let is = Print ∷ Take ∷ Discard 1 ∷ [] in
       let shapes = (type_of vars e ∷ types) ∷ types ∷ (VoidTy ∷ types) ∷ [] in
-      let back = stand_back (p + 1) ce is te shapes (expr_length sc types e) s.2 in
+      let suffix = stand_suffix (p + 1) ce is te shapes (expr_length sc types e) s.2 in
       let len : p + length (stmt_code sc (PrintStmt e)) ≡ p + 1 + length ce + 1 + 1 + 1 = omega (arith, length-append ce is) in
-      let expr = expr_agrees (p + 1) vars sc types e see typed.0 (stand_front (p + 1) ce is te shapes (expr_length sc types e) s.2) (back.1, ap is_take back.0) in
-      let waits : Waits code f (p + 1 + length ce + 1) VoidTy types = (back.2.0, back.2.1, (back.2.2.1, ap is_take back.2.2.0)) in
+      let expr = expr_agrees (p + 1) vars sc types e see typed.0 (stand_prefix (p + 1) ce is te shapes (expr_length sc types e) s.2) (suffix.1, ap is_take suffix.0) in
+      let waits : Waits code f (p + 1 + length ce + 1) VoidTy types = (suffix.2.0, suffix.2.1, (suffix.2.2.1, ap is_take suffix.2.2.0)) in
       let last : Agrees code f (p + 1 + length ce + 1 + 1) (Discard 1) (VoidTy ∷ types) = (omega arith, subst (λ n. Goes code f n types) len g) in
       (expr_starts (p + 1) sc types e is shapes s.2, agree_append (p + 1) ce is te shapes expr ((type_of vars e, types, refl, typed.1, waits), (tt, (last, tt))))
 
@@ -226,9 +226,9 @@ module _ (code : List FuncCode) (f : ℕ) where
       let cb = body_code (scope_after sc t) body in
       let tb = body_types (vars_after vars t) body in
       let len = stmt_length sc (seen vars) (type_of vars (expr_in t)) t in
-      let front = stand_front p ct cb tys tb len s in
-      let back = stand_back p ct cb tys tb len s in
-      agree_append p ct cb tys tb (stmt_agrees p vars sc t see typed.0 front (body_starts (p + length ct) (scope_after sc t) (vars_after vars t) body back)) (body_agrees (p + length ct) (vars_after vars t) (scope_after sc t) body (sees_stmt vars sc t see) typed.1 r back)
+      let prefix = stand_prefix p ct cb tys tb len s in
+      let suffix = stand_suffix p ct cb tys tb len s in
+      agree_append p ct cb tys tb (stmt_agrees p vars sc t see typed.0 prefix (body_starts (p + length ct) (scope_after sc t) (vars_after vars t) body suffix)) (body_agrees (p + length ct) (vars_after vars t) (scope_after sc t) body (sees_stmt vars sc t see) typed.1 r suffix)
 
   -- what stands, by its places
   agree_at : (p : ℕ) (is : List Instr) (shapes : List (List Ty)) → AllAgree code f p is shapes → (q : ℕ) (i : Instr) (types : List Ty) → slice_get is q ≡ Some i → slice_get shapes q ≡ Some types → Agrees code f (p + q) i types
@@ -243,7 +243,7 @@ module _ (code : List FuncCode) (f : ℕ) where
       let z : p + 1 + q ≡ p + suc q = omega arith in
       subst (λ n. Agrees code f n i types) z (agree_at (p + 1) is shapes a.1 q i types x y)
 
-  -- code that stands from a place of a func to its end, with the types that are told of it
+  -- code that stands from an address of a func to its end, with the types that its shapes are of
   stand_all : (instrs is pre : List Instr) (all types pre_types : List (List Ty)) → length is ≡ length types → length pre ≡ length pre_types → ((p : ℕ) → fetch code f p ≡ slice_get instrs p) → ((p : ℕ) → shape_at code f p ≡ slice_get all p) → instrs ≡ pre ++ is → all ≡ pre_types ++ types → Stand code f (length pre) is types
   stand_all instrs [] pre all [] pre_types e l c d x y = tt
   stand_all instrs [] pre all (ts ∷ types) pre_types e l c d x y = absurd (omega arith)

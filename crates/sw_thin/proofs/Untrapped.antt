@@ -2,7 +2,8 @@
 use Rattle.std.proofs.Common.{◌≡◌, ℕ, zero, suc, ◌+◌, ◌*◌, ◌<◌, ◌≤◌, ◌⊎◌, inl, inr, ⊎_elim, ℤ, List, [], ◌∷◌, Option, Some, None, refl, sym, subst, arith, Bool, true, false, pos, negsuc, lt-ltb}
 use Rattle.std.specs.Prelude.{nat_lt, if◌then◌else◌, slice_get, slice_set}
 use Rattle.std.specs.List.{AllByRecursion}
-use Rattle.sw_thin.specs.ThinTree.{Expr, Stmt, Let as LetStmt, Print as PrintStmt, Int as IntExpr, Str as StrExpr, Var as VarExpr, Add as AddExpr, main_func}
+use Rattle.sw_base.specs.Limits.{greatest_integer}
+use Rattle.sw_thin.specs.Program.{Expr, Stmt, Let as LetStmt, Print as PrintStmt, Int as IntExpr, Str as StrExpr, Var as VarExpr, Add as AddExpr, main_func}
 use Rattle.sw_job.specs.declared.value.Value.{Value}
 use Rattle.sw_job.specs.declared.value.Value.TheVariants.{Int, Str, Void}
 use Rattle.sw_job.specs.declared.turn.Ask.TheVariants.{Print as AskPrint}
@@ -16,9 +17,9 @@ use Rattle.sw_thin.specs.declared.history.Event.{Event}
 use Rattle.sw_thin.specs.declared.history.Event.TheVariants.{Turn}
 use Rattle.sw_thin.specs.declared.history.Label.{Label}
 use Rattle.sw_thin.specs.declared.history.Entry.{Entry}
-use Rattle.sw_thin.specs.Meaning.{Todo, Eval, Exec, DoAdd, DoLet, DoPrint, Await, Forget, Held, Var, Part, Body, TreeFrame, Fr, TreeGoes, TreeStops, execs, look, with_value, with_outcome, with_text, expand, TreeEnds, tree_then, tree_run, TreeReaches}
+use Rattle.sw_thin.specs.Meaning.{Todo, Eval, Exec, DoAdd, DoLet, DoPrint, Await, Forget, Held, Var, Part, Body, TreeFrame, Fr, TreeGoes, TreeStops, execs, lookup, with_value, with_outcome, with_text, expand, TreeEnds, tree_then, tree_run, TreeReaches}
 use Rattle.sw_thin.specs.State.{Activation, MeaningState, after_exit}
-use Rattle.sw_thin.specs.History.{Row, IsKept, start}
+use Rattle.sw_thin.specs.History.{KeptEvent, IsKept, start_state}
 use Rattle.sw_thin.specs.Thin.{IsSum, terms, IsShortSum, IsThinStmt, IsThin}
 use Rattle.sw_thin.specs.TreeReading.{lets_after}
 use Rattle.sw_thin.proofs.BodyLemmas.{AreThinAfter, first_thin, rest_thin, all_after}
@@ -107,15 +108,15 @@ exit_same : (e e' : Exit) (left left' : List TreeFrame) → e ≡ e' → left �
 exit_same e e' left left' p q x = subst (λ z. IsThinExit e' z) q (subst (λ z. IsThinExit z left) p x)
 
 -- two values whose sum fits are added
-add_safe : (max x y : ℕ) → x + y < 9223372036854775808 → (h : List Held) (t : List Todo) → IsSafe max (Part (Int (pos (x + y))) ∷ h) t → IsSafe max (Part (Int (pos y)) ∷ Part (Int (pos x)) ∷ h) (DoAdd ∷ t)
+add_safe : (max x y : ℕ) → x + y < (greatest_integer + 1) → (h : List Held) (t : List Todo) → IsSafe max (Part (Int (pos (x + y))) ∷ h) t → IsSafe max (Part (Int (pos y)) ∷ Part (Int (pos x)) ∷ h) (DoAdd ∷ t)
 add_safe max x y l h t safe zero n e left b p = absurd (cc)
-add_safe max x y l h t safe (suc steps) n e left b p = fits (nat_lt (x + y) 9223372036854775808) (lt-ltb (x + y) 9223372036854775808 l) p
+add_safe max x y l h t safe (suc steps) n e left b p = fits (nat_lt (x + y) (greatest_integer + 1)) (lt-ltb (x + y) (greatest_integer + 1) l) p
   where
     fits : (fit : Bool) → fit ≡ true → tree_then (with_outcome (if fit then Gives (Int (pos (x + y))) else Traps Overflow) n (λ v. TreeGoes (Fr Body (Part v ∷ h) t ∷ []) n)) (tree_run max steps) ≡ TreeEnds e left b → IsThinExit e left
     fits true is p = safe steps n e left b p
     fits false is p = absurd (cc)
 
-sum_safe : (max : ℕ) (e : Expr) → IsSmallSum e → sum_value e < 9223372036854775808 → (h : List Held) (t : List Todo) → IsSafe max (Part (Int (pos (sum_value e))) ∷ h) t → IsSafe max h (Eval e ∷ t)
+sum_safe : (max : ℕ) (e : Expr) → IsSmallSum e → sum_value e < (greatest_integer + 1) → (h : List Held) (t : List Todo) → IsSafe max (Part (Int (pos (sum_value e))) ∷ h) t → IsSafe max h (Eval e ∷ t)
 sum_safe max (IntExpr (pos m)) s l h t safe zero n e left b p = absurd (cc)
 sum_safe max (IntExpr (pos m)) s l h t safe (suc steps) n e left b p = safe steps n e left b p
 sum_safe max (IntExpr (negsuc m)) s l h t safe steps n e left b p = elim s [ ]
@@ -131,7 +132,7 @@ summed max e small few h t safe = let most = value_bound e small in sum_safe max
 -- an expression of a thin statement, where any value will do
 expr_safe : (max : ℕ) (e : Expr) → IsSmallExpr e → (h : List Held) (t : List Todo) → ((v : Value) → IsSafe max (Part v ∷ h) t) → IsSafe max h (Eval e ∷ t)
 expr_safe max (VarExpr x) thin h t safe zero n e left b p = absurd (cc)
-expr_safe max (VarExpr x) thin h t safe (suc steps) n e left b p = found (look x h) p
+expr_safe max (VarExpr x) thin h t safe (suc steps) n e left b p = found (lookup x h) p
   where
     found : (o : Option Value) → tree_then (with_value o (λ v. TreeGoes (Fr Body (Part v ∷ h) t ∷ []) n)) (tree_run max steps) ≡ TreeEnds e left b → IsThinExit e left
     found None p = absurd (cc)
@@ -214,18 +215,18 @@ after_thin s j a (Return v) left n thin is = record { untrapped = thin.untrapped
 after_thin s j a (Trap kind) left n thin is = elim is [ ]
 after_thin s j a Slice left n thin is = record { untrapped = thin.untrapped; each = set_thin s.activations j _ thin.each is }
 
-row_thin : (s : MeaningState) (e : Event) (labels : List Label) (t : MeaningState) → IsThinState s → Row s e labels t → IsThinState t
-row_thin s (Turn j) labels t thin row =
-    let turn = row.2.turn in
+event_thin : (s : MeaningState) (e : Event) (labels : List Label) (t : MeaningState) → IsThinState s → KeptEvent s e labels t → IsThinState t
+event_thin s (Turn j) labels t thin kept_event =
+    let turn = kept_event.2.turn in
     let here = get_thin s.activations j.0 turn.activation thin.each turn.is_ready in
-    let exit = turn_safe row.0 turn.activation.given turn.activation.left turn.exit turn.left turn.begun here turn.reaches in
-    subst IsThinState (sym turn.after) (after_thin s j.0 turn.activation turn.exit turn.left turn.begun thin exit)
+    let exit = turn_safe kept_event.0 turn.activation.given turn.activation.left turn.exit turn.left turn.begun here turn.reaches in
+    subst IsThinState (sym turn.effect) (after_thin s j.0 turn.activation turn.exit turn.left turn.begun thin exit)
 
 kept_thin : (s : MeaningState) (entries : List Entry) (t : MeaningState) → IsThinState s → IsKept s entries t → IsThinState t
 kept_thin s [] t thin kept = subst IsThinState (sym kept) thin
-kept_thin s (e ∷ entries) t thin kept = kept_thin kept.0 entries t (row_thin s e.event e.labels kept.0 thin kept.1) kept.2
+kept_thin s (e ∷ entries) t thin kept = kept_thin kept.0 entries t (event_thin s e.event e.labels kept.0 thin kept.1) kept.2
 
 -- no kept history of a thin tree traps
-pub thin_untrapped : (body : List Stmt) → IsThin body → (entries : List Entry) (t : MeaningState) → IsKept (start (main_func body)) entries t → t.trap ≡ None
+pub thin_untrapped : (body : List Stmt) → IsThin body → (entries : List Entry) (t : MeaningState) → IsKept (start_state (main_func body)) entries t → t.trap ≡ None
 thin_untrapped body thin entries t kept =
-    (kept_thin (start (main_func body)) entries t (record { untrapped = refl; each = (record { held = []; rest = body; thin = small_stmts 0 body (all_after body thin); is = inl refl }, tt) }) kept).untrapped
+    (kept_thin (start_state (main_func body)) entries t (record { untrapped = refl; each = (record { held = []; rest = body; thin = small_stmts 0 body (all_after body thin); is = inl refl }, tt) }) kept).untrapped

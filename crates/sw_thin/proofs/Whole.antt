@@ -3,21 +3,21 @@ use Rattle.std.proofs.Common.{◌⊎◌, inl, inr, ◌≡◌, ℕ, zero, suc, Li
 use Rattle.std.specs.Prelude.{slice_get}
 use Rattle.std.specs.Option.{option_map}
 use Rattle.std.proofs.lemmas.Option.{slice_get-map}
-use Rattle.sw_thin.specs.ThinTree.{Stmt, Func, Let as LetStmt, Print as PrintStmt}
+use Rattle.sw_thin.specs.Program.{Stmt, Func, Let as LetStmt, Print as PrintStmt}
 use Rattle.sw_job.specs.declared.value.Ty.TheVariants.{Void as VoidTy}
 use Rattle.sw_job.specs.declared.turn.Frame.{Frame}
 use Rattle.sw_job.specs.declared.turn.Exit.{Exit}
 use Rattle.sw_job.specs.declared.turn.Given.{Given}
 use Rattle.sw_job.specs.declared.turn.Given.TheVariants.{Nothing, Value as GivenValue}
 use Rattle.sw_job.specs.declared.code.FuncCode.{FuncCode}
-use Rattle.sw_job.specs.Machine.{frame, instr_in, fetch, is_take, CodeNext, CodeGoes, CodeStops, CodeBad, code_begin, CodeEnds, CodeStuck, code_then, code_run, CodeReaches}
+use Rattle.sw_job.specs.Machine.{frame, instr_in, fetch, is_take, CodeNext, CodeGoes, CodeStops, CodeNoStep, code_enter, CodeEnds, CodeStuck, code_then, code_run, CodeReaches}
 use Rattle.sw_job.specs.Typed.{TypedStart, NeverStuck}
-use Rattle.sw_thin.specs.Meaning.{Await, Kind, Body, TreeFrame, Fr, TreeNext, TreeGoes, TreeStops, TreeBad, execs, entry, TreeEnd, TreeEnds, TreeOpen, TreeStuck, tree_then, tree_run, tree_begin, TreeReaches}
-use Rattle.sw_thin.specs.Codes.{body_code, func_code}
+use Rattle.sw_thin.specs.Meaning.{Await, Kind, Body, TreeFrame, Fr, TreeNext, TreeGoes, TreeStops, TreeNoStep, execs, entry, TreeEnd, TreeEnds, TreeOpen, TreeStuck, tree_then, tree_run, tree_enter, TreeReaches}
+use Rattle.sw_thin.specs.Lowering.{body_code, func_code}
 use Rattle.sw_thin.specs.Carries.{SameTurn, Alike, Carries}
 use Rattle.sw_thin.proofs.Track.{waits, Left}
 use Rattle.sw_thin.proofs.Follow.{Makes, stays, not_taken_as, give_makes}
-use Rattle.sw_thin.proofs.Cases.{entry_good}
+use Rattle.sw_thin.proofs.Cases.{entry_simulates}
 use Rattle.sw_thin.proofs.Runs.{IsOver, over, RunFollows, run_on, run_follows}
 
 -- neither has a meaning, as where a value is given that was not awaited
@@ -30,48 +30,48 @@ abbrev pub Turns : List FuncCode → Given → ℕ → List Frame → List TreeF
 Turns code given max frames fs = SameTurn code (Left code) given max frames fs ⊎ NoMeaning code given max frames fs
 
 module _ (code : List FuncCode) where
-  -- a turn begins alike
-  begin_makes : (max : ℕ) (given : Given) (fs : List TreeFrame) (ms : List Frame) → Left code ms fs → Makes code max (tree_begin given fs) (code_begin code given ms)
-  begin_makes max Nothing [] [] w = tt
-  begin_makes max (GivenValue v) [] [] w = tt
-  begin_makes max given [] (m ∷ ms) w = absurd w
-  begin_makes max given (t ∷ ts) [] w = absurd w
-  begin_makes max Nothing (Fr k h [] ∷ fs) (m ∷ ms) w = subst (λ z. Makes code max (TreeGoes (Fr k h [] ∷ fs) 0) z) (sym (not_taken_as (fetch code m.func.0 m.place) (CodeGoes m ms 0) false w.1)) (stays code max (Fr k h [] ∷ fs) m ms 0 w.0)
-  begin_makes max Nothing (Fr k h (Await ∷ t) ∷ fs) (m ∷ ms) w = subst (λ z. Makes code max TreeBad z) (sym (not_taken_as (fetch code m.func.0 m.place) (CodeGoes m ms 0) true w.1)) tt
-  begin_makes max Nothing (Fr k h (i ∷ t) ∷ fs) (m ∷ ms) w = subst (λ z. Makes code max (TreeGoes (Fr k h (i ∷ t) ∷ fs) 0) z) (sym (not_taken_as (fetch code m.func.0 m.place) (CodeGoes m ms 0) false w.1)) (stays code max (Fr k h (i ∷ t) ∷ fs) m ms 0 w.0)
-  begin_makes max (GivenValue v) (f ∷ fs) (m ∷ ms) w = give_makes code max v (f ∷ fs) (m ∷ ms) 0 w
+  -- a turn is entered alike
+  enter_makes : (max : ℕ) (given : Given) (fs : List TreeFrame) (ms : List Frame) → Left code ms fs → Makes code max (tree_enter given fs) (code_enter code given ms)
+  enter_makes max Nothing [] [] w = tt
+  enter_makes max (GivenValue v) [] [] w = tt
+  enter_makes max given [] (m ∷ ms) w = absurd w
+  enter_makes max given (t ∷ ts) [] w = absurd w
+  enter_makes max Nothing (Fr k h [] ∷ fs) (m ∷ ms) w = subst (λ z. Makes code max (TreeGoes (Fr k h [] ∷ fs) 0) z) (sym (not_taken_as (fetch code m.func.0 m.address) (CodeGoes m ms 0) false w.1)) (stays code max (Fr k h [] ∷ fs) m ms 0 w.0)
+  enter_makes max Nothing (Fr k h (Await ∷ t) ∷ fs) (m ∷ ms) w = subst (λ z. Makes code max TreeNoStep z) (sym (not_taken_as (fetch code m.func.0 m.address) (CodeGoes m ms 0) true w.1)) tt
+  enter_makes max Nothing (Fr k h (i ∷ t) ∷ fs) (m ∷ ms) w = subst (λ z. Makes code max (TreeGoes (Fr k h (i ∷ t) ∷ fs) 0) z) (sym (not_taken_as (fetch code m.func.0 m.address) (CodeGoes m ms 0) false w.1)) (stays code max (Fr k h (i ∷ t) ∷ fs) m ms 0 w.0)
+  enter_makes max (GivenValue v) (f ∷ fs) (m ∷ ms) w = give_makes code max v (f ∷ fs) (m ∷ ms) 0 w
 
-  -- a turn that begins alike ends alike
-  ends_alike : (max : ℕ) (given : Given) (fs : List TreeFrame) (ms : List Frame) → Makes code max (tree_begin given fs) (code_begin code given ms) → Turns code given max ms fs
-  ends_alike max given fs ms mk = go (tree_begin given fs) (code_begin code given ms) refl refl mk
+  -- a turn that is entered alike ends alike
+  ends_alike : (max : ℕ) (given : Given) (fs : List TreeFrame) (ms : List Frame) → Makes code max (tree_enter given fs) (code_enter code given ms) → Turns code given max ms fs
+  ends_alike max given fs ms mk = go (tree_enter given fs) (code_enter code given ms) refl refl mk
     where
-      same : (e : Exit) (ms1 : List Frame) (fs1 : List TreeFrame) (b : ℕ) (r : TreeNext) (x : CodeNext) → tree_begin given fs ≡ r → code_begin code given ms ≡ x → (y : ℕ) → tree_then r (tree_run max y) ≡ TreeEnds e fs1 b → (j : ℕ) → code_then x (code_run code max j) ≡ CodeEnds e ms1 b → Left code ms1 fs1 → Turns code given max ms fs
+      same : (e : Exit) (ms1 : List Frame) (fs1 : List TreeFrame) (b : ℕ) (r : TreeNext) (x : CodeNext) → tree_enter given fs ≡ r → code_enter code given ms ≡ x → (y : ℕ) → tree_then r (tree_run max y) ≡ TreeEnds e fs1 b → (j : ℕ) → code_then x (code_run code max j) ≡ CodeEnds e ms1 b → Left code ms1 fs1 → Turns code given max ms fs
       same e ms1 fs1 b r x er ex y ey j ej w = inl (record { exit = e; frames_left = ms1; tree_left = fs1; begun = b; in_code = (j, ap (λ z. code_then z (code_run code max j)) ex ∙ ej); in_tree = (y, ap (λ z. tree_then z (tree_run max y)) er ∙ ey); still_alike = w })
 
-      none : (r : TreeNext) (x : CodeNext) → tree_begin given fs ≡ r → code_begin code given ms ≡ x → (y : ℕ) → tree_then r (tree_run max y) ≡ TreeStuck → (j : ℕ) → code_then x (code_run code max j) ≡ CodeStuck → Turns code given max ms fs
+      none : (r : TreeNext) (x : CodeNext) → tree_enter given fs ≡ r → code_enter code given ms ≡ x → (y : ℕ) → tree_then r (tree_run max y) ≡ TreeStuck → (j : ℕ) → code_then x (code_run code max j) ≡ CodeStuck → Turns code given max ms fs
       none r x er ex y ey j ej = inr (record { in_code = (j, ap (λ z. code_then z (code_run code max j)) ex ∙ ej); in_tree = (y, ap (λ z. tree_then z (tree_run max y)) er ∙ ey) })
 
-      run : (fs1 : List TreeFrame) (n1 : ℕ) (m1 : Frame) (ms1 : List Frame) (n2 y : ℕ) (z : TreeEnd) → tree_begin given fs ≡ TreeGoes fs1 n1 → code_begin code given ms ≡ CodeGoes m1 ms1 n2 → tree_run max y fs1 n1 ≡ z → IsOver z → RunFollows code max z m1 ms1 n2 → Turns code given max ms fs
+      run : (fs1 : List TreeFrame) (n1 : ℕ) (m1 : Frame) (ms1 : List Frame) (n2 y : ℕ) (z : TreeEnd) → tree_enter given fs ≡ TreeGoes fs1 n1 → code_enter code given ms ≡ CodeGoes m1 ms1 n2 → tree_run max y fs1 n1 ≡ z → IsOver z → RunFollows code max z m1 ms1 n2 → Turns code given max ms fs
       run fs1 n1 m1 ms1 n2 y (TreeEnds e fs2 b) er ex ez o f = same e f.0 fs2 b (TreeGoes fs1 n1) (CodeGoes m1 ms1 n2) er ex y ez f.1 f.2 f.3
       run fs1 n1 m1 ms1 n2 y TreeOpen er ex ez o f = absurd o
       run fs1 n1 m1 ms1 n2 y TreeStuck er ex ez o f = none (TreeGoes fs1 n1) (CodeGoes m1 ms1 n2) er ex y ez f.0 f.1
 
-      go : (r : TreeNext) (x : CodeNext) → tree_begin given fs ≡ r → code_begin code given ms ≡ x → Makes code max r x → Turns code given max ms fs
+      go : (r : TreeNext) (x : CodeNext) → tree_enter given fs ≡ r → code_enter code given ms ≡ x → Makes code max r x → Turns code given max ms fs
       go (TreeGoes fs1 n1) (CodeGoes m1 ms1 n2) er ex f =
           let o = over max max n1 fs1 (omega arith) in
           run fs1 n1 m1 ms1 n2 o.0 (tree_run max o.0 fs1 n1) er ex refl o.1 (run_on code max (tree_run max o.0 fs1 n1) f.2 (run_follows code max o.0 fs1 f.0 f.1 n1 f.3))
       go (TreeStops e fs1 n1) (CodeGoes m1 ms1 n2) er ex f = same e f.0 fs1 n1 (TreeStops e fs1 n1) (CodeGoes m1 ms1 n2) er ex 0 refl f.1 f.2 f.3
-      go TreeBad (CodeGoes m1 ms1 n2) er ex f = none TreeBad (CodeGoes m1 ms1 n2) er ex 0 refl f.0 f.1
+      go TreeNoStep (CodeGoes m1 ms1 n2) er ex f = none TreeNoStep (CodeGoes m1 ms1 n2) er ex 0 refl f.0 f.1
       go (TreeStops e fs1 n1) (CodeStops e1 ms1 n2) er ex f = same e ms1 fs1 n1 (TreeStops e fs1 n1) (CodeStops e1 ms1 n2) er ex 0 refl 0 (ap (λ z. CodeEnds z ms1 n2) (sym f.0) ∙ ap (λ z. CodeEnds e ms1 z) (sym f.1)) f.2
       go (TreeGoes fs1 n1) (CodeStops e1 ms1 n2) er ex f = absurd f
-      go TreeBad (CodeStops e1 ms1 n2) er ex f = absurd f
-      go TreeBad CodeBad er ex f = none TreeBad CodeBad er ex 0 refl 0 refl
-      go (TreeGoes fs1 n1) CodeBad er ex f = absurd f
-      go (TreeStops e fs1 n1) CodeBad er ex f = absurd f
+      go TreeNoStep (CodeStops e1 ms1 n2) er ex f = absurd f
+      go TreeNoStep CodeNoStep er ex f = none TreeNoStep CodeNoStep er ex 0 refl 0 refl
+      go (TreeGoes fs1 n1) CodeNoStep er ex f = absurd f
+      go (TreeStops e fs1 n1) CodeNoStep er ex f = absurd f
 
   -- whatever is given and however many statements may begin
   pub turns : (given : Given) (max : ℕ) (frames : List Frame) (fs : List TreeFrame) → Left code frames fs → Turns code given max frames fs
-  turns given max frames fs w = ends_alike max given fs frames (begin_makes max given fs frames w)
+  turns given max frames fs w = ends_alike max given fs frames (enter_makes max given fs frames w)
 
   -- from a typed start the code is not stuck, so both come to the same exit
   pub alike : NeverStuck code → (turns_left : ℕ) (frames : List Frame) (fs : List TreeFrame) → Left code frames fs → Alike code turns_left frames fs
@@ -97,7 +97,7 @@ waits_not k (s ∷ body) = refl
 
 -- a func at its beginning and its code at its beginning
 pub entry_left : (code : List FuncCode) (f : ℕ) (func : Func) → slice_get code f ≡ Some (func_code func) → Left code (frame f 0 [] ∷ []) (entry func ∷ [])
-entry_left code f func e = (entry_good code f func [] [] e tt, ap (λ o. is_take (instr_in o 0)) e ∙ no_take_first func.body ∙ sym (waits_not Body func.body))
+entry_left code f func e = (entry_simulates code f func [] [] e tt, ap (λ o. is_take (instr_in o 0)) e ∙ no_take_first func.body ∙ sym (waits_not Body func.body))
 
 pub carries : (funcs : List Func) (code : List FuncCode) → Knows funcs code → NeverStuck code → Carries funcs code
 carries funcs code knows never = record {

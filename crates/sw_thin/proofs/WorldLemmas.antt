@@ -2,7 +2,7 @@
 use Rattle.std.proofs.Common.{◌≡◌, ℕ, ◌+◌, ◌<◌, ◌≤◌, ◌^◌, max, List, [], ◌∷◌, ◌++◌, Option, Some, None, refl, sym, ap, ◌∙◌, subst, arith, length}
 use Rattle.std.specs.Prelude.{slice_get}
 use Rattle.sw_base.specs.declared.ids.JobNo.{JobNo}
-use Rattle.sw_thin.specs.ThinTree.{Func}
+use Rattle.sw_thin.specs.Program.{Func}
 use Rattle.sw_job.specs.declared.value.Value.TheVariants.{Void}
 use Rattle.sw_job.specs.declared.turn.Frame.{Frame}
 use Rattle.sw_job.specs.declared.turn.Ask.TheVariants.{Print as AskPrint}
@@ -20,20 +20,20 @@ use Rattle.sw_thin.specs.declared.history.Entry.{Entry}
 use Rattle.sw_thin.specs.Meaning.{TreeFrame, entry}
 use Rattle.sw_thin.specs.Carries.{Alike}
 use Rattle.sw_thin.specs.State.{Activation, MeaningState, after_exit, Replays}
-use Rattle.sw_thin.specs.History.{slice_limit, start, KeptTurn, Row, IsKept, IsDriven, labels_of}
+use Rattle.sw_thin.specs.History.{slice_limit, start_state, KeptTurn, KeptEvent, IsKept, IsDriven, labels_of}
 use Rattle.sw_thin.specs.declared.world.Job.{Job}
 use Rattle.sw_thin.specs.declared.world.Job.TheVariants.{Ready, Ended, Trapped, Lost}
-use Rattle.sw_thin.specs.World.{Run, state_of, IsAlike, IsOfJob, IsLegal, IsTypedJob, job_ahead, IsLost, Sound, IsSound, IsAtEnd, trap_of, next_job, line_of, with_line, Steps, turn_entry}
+use Rattle.sw_thin.specs.World.{WorldState, state_of, IsAlike, IsOfJob, IsLegal, IsTypedJob, job_ahead, IsLost, Sound, IsSound, IsAtEnd, trap_of, next_job, printed_line, with_line, Steps, turn_entry}
 use Rattle.sw_thin.proofs.Reaches.{alike_all, turn_counted}
 use Rattle.sw_thin.proofs.HistoryLemmas.{kept_more, kept_driven, kept_replays}
 
 -- the world after a turn
-abbrev pub after_turn : Run → JobNo → Exit → List Frame → ℕ → Run
+abbrev pub after_turn : WorldState → JobNo → Exit → List Frame → ℕ → WorldState
 after_turn r j exit frames begun = record {
   code = r.code;
   main = r.main;
   job = next_job exit frames;
-  log = with_line r.log (line_of exit);
+  log = with_line r.log (printed_line exit);
   begun = r.begun + begun;
   history = r.history ++ turn_entry j begun ∷ [];
 }
@@ -82,48 +82,48 @@ ahead_next code s (Trap kind) frames begun r = let m = r.spent in omega arith
 ahead_next code s Slice frames begun r = let m = r.spent in omega arith
 
 -- the states before and after agree
-after_state : (s : TurnStart) (log : List (List ℕ)) (n begun : ℕ) (left left' : List TreeFrame) (exit : Exit) (frames : List Frame) → state_of (next_job exit frames) (with_line log (line_of exit)) (n + begun) (next_activation exit (of_start s left) left') ≡ after_exit (state_of (Ready s) log n (Some (of_start s left))) 0 (of_start s left) exit left' begun
+after_state : (s : TurnStart) (log : List (List ℕ)) (n begun : ℕ) (left left' : List TreeFrame) (exit : Exit) (frames : List Frame) → state_of (next_job exit frames) (with_line log (printed_line exit)) (n + begun) (next_activation exit (of_start s left) left') ≡ after_exit (state_of (Ready s) log n (Some (of_start s left))) 0 (of_start s left) exit left' begun
 after_state s log n begun left left' (Ask (AskPrint text)) frames = refl
 after_state s log n begun left left' (Return v) frames = refl
 after_state s log n begun left left' (Trap kind) frames = refl
 after_state s log n begun left left' Slice frames = refl
 
-legal_turn : (main : Func) (r : Run) (s : TurnStart) (j : JobNo) (exit : Exit) (frames : List Frame) (begun : ℕ) → r.job ≡ Ready s → TypedStart r.code s.given s.frames → j.0 ≡ 0 → Ran r.code s exit frames begun → IsLegal main r → IsLegal main (after_turn r j exit frames begun)
+legal_turn : (main : Func) (r : WorldState) (s : TurnStart) (j : JobNo) (exit : Exit) (frames : List Frame) (begun : ℕ) → r.job ≡ Ready s → TypedStart r.code s.given s.frames → j.0 ≡ 0 → Ran r.code s exit frames begun → IsLegal main r → IsLegal main (after_turn r j exit frames begun)
 legal_turn main r s j exit frames begun here typed turn ran legal =
     let of_job : IsAlike r.code s legal.activation = subst (λ o. IsOfJob r.code o legal.activation) here legal.of_job in
     let both = alike_all r.code slice_limit s.given s.frames of_job.left of_job.alike typed (omega arith) ran.reaches in
     let counted = turn_counted slice_limit s.given of_job.left (omega arith) both.1 in
     let old = of_start s of_job.left in
     let before = state_of (Ready s) r.log r.begun (Some old) in
-    let after = state_of (next_job exit frames) (with_line r.log (line_of exit)) (r.begun + begun) (next_activation exit old both.0) in
+    let after = state_of (next_job exit frames) (with_line r.log (printed_line exit)) (r.begun + begun) (next_activation exit old both.0) in
     let kept_turn : KeptTurn before 0 (max 1 begun) after = record {
       turn = record {
         untrapped = refl;
         activation = old;
         is_ready = refl;
-        some = omega arith;
+        at_least_one = omega arith;
         exit = exit;
         left = both.0;
         begun = begun;
         reaches = counted.0;
-        after = after_state s r.log r.begun begun of_job.left both.0 exit frames;
+        effect = after_state s r.log r.begun begun of_job.left both.0 exit frames;
       };
       counted = refl;
       within = counted.2;
       sliced = counted.1;
     } in
-    let row : Row before (Turn j) (Go j (max 1 begun) ∷ []) after = (max 1 begun, refl, subst (λ n. KeptTurn before n (max 1 begun) after) (sym turn) kept_turn) in
-    let kept : IsKept (start main) r.history before =
-    subst (λ o. IsKept (start main) r.history (state_of o r.log r.begun (Some old))) here
-    (subst (λ a. IsKept (start main) r.history (state_of r.job r.log r.begun a)) of_job.same legal.kept) in
+    let kept_event : KeptEvent before (Turn j) (Go j (max 1 begun) ∷ []) after = (max 1 begun, refl, subst (λ n. KeptTurn before n (max 1 begun) after) (sym turn) kept_turn) in
+    let kept : IsKept (start_state main) r.history before =
+    subst (λ o. IsKept (start_state main) r.history (state_of o r.log r.begun (Some old))) here
+    (subst (λ a. IsKept (start_state main) r.history (state_of r.job r.log r.begun a)) of_job.same legal.kept) in
     record {
       activation = next_activation exit old both.0;
-      kept = kept_more (start main) r.history before (turn_entry j begun) after kept row;
+      kept = kept_more (start_state main) r.history before (turn_entry j begun) after kept kept_event;
       of_job = next_of_job r.code exit frames old both.0 both.2;
     }
 
 -- a turn keeps a world sound
-pub sound_turn : (r : Run) (s : TurnStart) (j : JobNo) (exit : Exit) (frames : List Frame) (begun : ℕ) → IsSound r → r.job ≡ Ready s → j.0 ≡ 0 → Ran r.code s exit frames begun → IsSound (after_turn r j exit frames begun)
+pub sound_turn : (r : WorldState) (s : TurnStart) (j : JobNo) (exit : Exit) (frames : List Frame) (begun : ℕ) → IsSound r → r.job ≡ Ready s → j.0 ≡ 0 → Ran r.code s exit frames begun → IsSound (after_turn r j exit frames begun)
 sound_turn r s j exit frames begun kept here turn ran =
     let sound : Sound r = kept (λ lost. subst IsLost here lost) in
     let typed : TypedStart r.code s.given s.frames = subst (IsTypedJob r.code) here sound.typed in
@@ -136,7 +136,7 @@ sound_turn r s j exit frames begun kept here turn ran =
     }
 
 -- the fields of a world under other names
-pub sound_as : (r : Run) (job : Job) (log : List (List ℕ)) (begun : ℕ) (history : List Entry) → job ≡ r.job → log ≡ r.log → begun ≡ r.begun → history ≡ r.history → IsSound r → IsSound (record { code = r.code; main = r.main; job = job; log = log; begun = begun; history = history })
+pub sound_as : (r : WorldState) (job : Job) (log : List (List ℕ)) (begun : ℕ) (history : List Entry) → job ≡ r.job → log ≡ r.log → begun ≡ r.begun → history ≡ r.history → IsSound r → IsSound (record { code = r.code; main = r.main; job = job; log = log; begun = begun; history = history })
 sound_as r job log begun history p q n h sound =
     subst (λ x. IsSound (record { code = r.code; main = r.main; job = x; log = log; begun = begun; history = history })) (sym p)
     (subst (λ x. IsSound (record { code = r.code; main = r.main; job = r.job; log = x; begun = begun; history = history })) (sym q)
@@ -158,23 +158,23 @@ sound_start code main f typed here fits there =
     }
 
 -- a world that is at its end without a trap shows the one driven history, whose labels replay
-pub record IsDone (main : Func) (r : Run) : Type 0 where
+pub record IsDone (main : Func) (r : WorldState) : Type 0 where
   pub state : MeaningState
   pub shown : state ≡ state_of Ended r.log r.begun None
-  pub driven : IsDriven (start main) r.history state
-  pub replays : Replays (start main) (labels_of r.history) state
+  pub driven : IsDriven (start_state main) r.history state
+  pub replays : Replays (start_state main) (labels_of r.history) state
 
-pub done_when_ended : (main : Func) (r : Run) → r.job ≡ Ended → IsLegal main r → IsDone main r
+pub done_when_ended : (main : Func) (r : WorldState) → r.job ≡ Ended → IsLegal main r → IsDone main r
 done_when_ended main r ended legal =
     let none : legal.activation ≡ None = subst (λ o. IsOfJob r.code o legal.activation) ended legal.of_job in
-    let kept : IsKept (start main) r.history (state_of Ended r.log r.begun None) =
-    subst (λ o. IsKept (start main) r.history (state_of o r.log r.begun None)) ended
-    (subst (λ a. IsKept (start main) r.history (state_of r.job r.log r.begun a)) none legal.kept) in
+    let kept : IsKept (start_state main) r.history (state_of Ended r.log r.begun None) =
+    subst (λ o. IsKept (start_state main) r.history (state_of o r.log r.begun None)) ended
+    (subst (λ a. IsKept (start_state main) r.history (state_of r.job r.log r.begun a)) none legal.kept) in
     record {
       state = state_of Ended r.log r.begun None;
       shown = refl;
-      driven = kept_driven (start main) r.history (state_of Ended r.log r.begun None) (record { job = _; only = refl }) kept refl;
-      replays = kept_replays (start main) r.history (state_of Ended r.log r.begun None) kept;
+      driven = kept_driven (start_state main) r.history (state_of Ended r.log r.begun None) (record { job = _; only = refl }) kept refl;
+      replays = kept_replays (start_state main) r.history (state_of Ended r.log r.begun None) kept;
     }
 
 -- a job at its end that was not lost has ended, where there is no trap
@@ -185,7 +185,7 @@ ended_untrapped (Trapped kind) end there none = absurd (cc)
 ended_untrapped Lost end there none = absurd (there tt)
 
 -- a world after a turn of the machine, as its fields are left
-pub sound_after : (r : Run) (s : TurnStart) (j : JobNo) (end : TurnEnd) (job : Job) (line : Option (List ℕ)) (log : List (List ℕ)) (added : Entry) (reserved history : List Entry) → IsSound r → r.job ≡ Ready s → j.0 ≡ 0 → Ran r.code s end.exit end.frames end.begun → job ≡ next_job end.exit end.frames → line ≡ line_of end.exit → log ≡ with_line r.log line → added ≡ turn_entry j end.begun → reserved ≡ r.history → history ≡ reserved ++ added ∷ [] → IsSound (record { code = r.code; main = r.main; job = job; log = log; begun = r.begun + end.begun; history = history })
+pub sound_after : (r : WorldState) (s : TurnStart) (j : JobNo) (end : TurnEnd) (job : Job) (line : Option (List ℕ)) (log : List (List ℕ)) (added : Entry) (reserved history : List Entry) → IsSound r → r.job ≡ Ready s → j.0 ≡ 0 → Ran r.code s end.exit end.frames end.begun → job ≡ next_job end.exit end.frames → line ≡ printed_line end.exit → log ≡ with_line r.log line → added ≡ turn_entry j end.begun → reserved ≡ r.history → history ≡ reserved ++ added ∷ [] → IsSound (record { code = r.code; main = r.main; job = job; log = log; begun = r.begun + end.begun; history = history })
 sound_after r s j end job line log added reserved history sound here turn ran is_job is_line is_log is_added is_reserved is_history =
     sound_as (after_turn r j end.exit end.frames end.begun) job log (r.begun + end.begun) history is_job (is_log ∙ ap (with_line r.log) is_line) refl
     (is_history ∙ ap (λ l. l ++ added ∷ []) is_reserved ∙ ap (λ e. r.history ++ e ∷ []) is_added)
@@ -198,7 +198,7 @@ ahead_less code s (Trap kind) frames m = omega arith
 ahead_less code s Slice frames m = omega arith
 
 -- such a turn is one step of the world
-pub steps_after : (old r : Run) (s : TurnStart) (j : JobNo) (end : TurnEnd) (job : Job) (log : List (List ℕ)) (begun : ℕ) (added : Entry) (reserved history : List Entry) → r ≡ old → r.job ≡ Ready s → Ran r.code s end.exit end.frames end.begun → job ≡ next_job end.exit end.frames → added ≡ turn_entry j end.begun → reserved ≡ r.history → history ≡ reserved ++ added ∷ [] → Steps old (Turn j) (record { code = r.code; main = r.main; job = job; log = log; begun = begun; history = history })
+pub steps_after : (old r : WorldState) (s : TurnStart) (j : JobNo) (end : TurnEnd) (job : Job) (log : List (List ℕ)) (begun : ℕ) (added : Entry) (reserved history : List Entry) → r ≡ old → r.job ≡ Ready s → Ran r.code s end.exit end.frames end.begun → job ≡ next_job end.exit end.frames → added ≡ turn_entry j end.begun → reserved ≡ r.history → history ≡ reserved ++ added ∷ [] → Steps old (Turn j) (record { code = r.code; main = r.main; job = job; log = log; begun = begun; history = history })
 steps_after old r s j end job log begun added reserved history is_old here ran is_job is_added is_reserved is_history =
     subst (λ o. Steps o (Turn j) (record { code = r.code; main = r.main; job = job; log = log; begun = begun; history = history })) is_old (record {
       code = refl;

@@ -1,7 +1,7 @@
 -- When code carries a program: from each typed start it does, turn by turn, what the tree does.
 use Rattle.std.specs.Prelude.{◌≡◌, ℕ, zero, suc, ◌≤◌, List, [], ◌∷◌, Some, slice_get}
 use Rattle.std.specs.Option.{option_map}
-use Rattle.sw_thin.specs.ThinTree.{Func}
+use Rattle.sw_thin.specs.Program.{Func}
 use Rattle.sw_job.specs.declared.value.Ty.TheVariants.{Void as VoidTy}
 use Rattle.sw_job.specs.declared.turn.Frame.{Frame}
 use Rattle.sw_job.specs.declared.turn.Exit.{Exit}
@@ -29,7 +29,8 @@ Alike code zero frames fs = Unit {0}
 Alike code (suc turns) frames fs =
     (given : Given) (max : ℕ) → TypedStart code given frames → 1 ≤ max → SameTurn code (Alike code turns) given max frames fs
 
--- the code has the program's funcs under their numbers, each of which returns nothing and begins alike to its body
+-- the code has the program's funcs under their numbers, each of which returns nothing, and whose first frame is alike to
+-- that of its body
 pub record Carries (funcs : List Func) (code : List FuncCode) : Type 0 where
   pub results : (f : ℕ) → option_map (λ c. c.result) (slice_get code f) ≡ option_map (λ d. VoidTy) (slice_get funcs f)
   pub bodies : (f : ℕ) (func : Func) → slice_get funcs f ≡ Some func → (turns : ℕ) → Alike code turns (frame f 0 [] ∷ []) (entry func ∷ [])

@@ -1,8 +1,8 @@
 -- The words of this crate's contracts.
-pub mod ThinTree
-pub mod ThinTrees
+pub mod Program
+pub mod ProgramView
 pub mod Meaning
-pub mod Codes
+pub mod Lowering
 pub mod Drafts
 pub mod Carries
 pub mod State
@@ -12,5 +12,5 @@ pub mod World
 pub mod ShortestText
 pub mod Thin
 pub mod TreeReading
-pub mod Report
+pub mod ReportText
 pub mod Reports

@@ -2,7 +2,7 @@
 use Rattle.std.specs.Prelude.{ℕ, List, [], ◌++◌, map, codes}
 use Rattle.std.specs.Fmt.{signed_decimal}
 use Rattle.std.specs.List.{flat_map}
-use Rattle.sw_thin.specs.ThinTree.{Expr, Int, Str, Var, Add, Stmt, Let, Print}
+use Rattle.sw_thin.specs.Program.{Expr, Int, Str, Var, Add, Stmt, Let, Print}
 
 abbrev pub first_line : List ℕ
 first_line = codes "func main(system: NodeSystem) async throws {\n"
@@ -31,5 +31,5 @@ ended line = line ++ codes "\n"
 abbrev pub lines_text : List Stmt → List ℕ
 lines_text body = flat_map ended (map line_text body)
 
-abbrev pub thin_text : List Stmt → List ℕ
-thin_text body = first_line ++ (lines_text body ++ last_line)
+abbrev pub shortest_text : List Stmt → List ℕ
+shortest_text body = first_line ++ (lines_text body ++ last_line)

@@ -2,6 +2,7 @@
 use Rattle.std.specs.Prelude.{◌≡◌, ℕ, pos, ◌+◌, ◌<◌, ◌≤◌, Bool, true, ◌&&◌, not, ◌==◌, nat_le, List, [], ◌∷◌, ◌++◌, length, None, codes}
 use Rattle.std.specs.Fmt.{decimal}
 use Rattle.std.specs.List.{AllByRecursion}
+use Rattle.sw_base.specs.Limits.{longest_source}
 use Rattle.sw_base.specs.declared.ids.Span.{Span}
 use Rattle.sw_tree.specs.declared.expr.Name.{Name}
 use Rattle.sw_tree.specs.declared.expr.Expr.{Expr as Tree}
@@ -18,8 +19,8 @@ use Rattle.sw_tree.specs.declared.decl.Parameter.{Parameter}
 use Rattle.sw_tree.specs.declared.decl.ParameterLabel.TheVariants as label
 use Rattle.sw_tree.specs.declared.decl.Signature.{Signature}
 use Rattle.sw_tree.specs.declared.decl.Tree.{Tree as File}
-use Rattle.sw_thin.specs.ThinTree.{Expr, Int, Str, Var, Add, Stmt, Let, Print}
-use Rattle.sw_thin.specs.ShortestText.{thin_text}
+use Rattle.sw_thin.specs.Program.{Expr, Int, Str, Var, Add, Stmt, Let, Print}
+use Rattle.sw_thin.specs.ShortestText.{shortest_text}
 
 -- ---- bodies
 
@@ -79,7 +80,7 @@ lets (Print e ∷ body) = lets body
 pub record IsThin (body : List Stmt) : Type 0 where
   pub each : (before : List Stmt) (stmt : Stmt) (after : List Stmt) → body ≡ before ++ (stmt ∷ after) → IsThinStmt (lets before) stmt
   pub few : length body ≤ 90000
-  pub short : length (thin_text body) ≤ 1048576
+  pub short : length (shortest_text body) ≤ longest_source
 
 -- ---- the syntax tree of a body
 

@@ -3,9 +3,9 @@ use Rattle.std.specs.Prelude.{◌≡◌, ℕ, ◌+◌, ◌*◌, ◌-◌, List, [
 use Rattle.std.specs.Char.{is_ascii_digit}
 use Rattle.std.specs.List.{AllByRecursion}
 use Rattle.sw_tree.specs.declared.stmt.Stmt.{Stmt as StmtTree}
-use Rattle.sw_thin.specs.declared.thin.Stmt.{Stmt as CodeStmt}
-use Rattle.sw_thin.specs.ThinTrees.{stmt_of}
-use Rattle.sw_thin.specs.ThinTree.{Stmt, Let, Print}
+use Rattle.sw_thin.specs.declared.program.Stmt.{Stmt as CodeStmt}
+use Rattle.sw_thin.specs.ProgramView.{stmt_of}
+use Rattle.sw_thin.specs.Program.{Stmt, Let, Print}
 use Rattle.sw_thin.specs.Thin.{IsThinStmt, IsStmtOf}
 use Rattle.sw_thin.specs.ShortestText.{line_text, ended}
 
@@ -34,7 +34,7 @@ abbrev pub lets_after : ℕ → Stmt → ℕ
 lets_after k (Let x e) = k + 1
 lets_after k (Print e) = k
 
--- the statements may stand after so many `let` statements, and the trees are theirs
+-- the statements may stand after so many `let` statements, and these are their trees
 abbrev pub AreThin : ℕ → List Stmt → List StmtTree → Type 0
 AreThin k [] [] = Unit {0}
 AreThin k [] (tree ∷ trees) = ⊥

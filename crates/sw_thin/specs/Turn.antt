@@ -4,11 +4,11 @@ use Rattle.sw_job.specs.declared.turn.Frame.{Frame}
 use Rattle.sw_job.specs.declared.turn.Given.{Given}
 use Rattle.sw_job.specs.declared.turn.TurnEnd.{TurnEnd}
 use Rattle.sw_job.specs.declared.code.FuncCode.{FuncCode}
-use Rattle.sw_job.specs.Machine.{CodeNext, CodeGoes, CodeStops, CodeBad, CodeEnds, code_run, code_step, code_begin}
+use Rattle.sw_job.specs.Machine.{CodeNext, CodeGoes, CodeStops, CodeNoStep, CodeEnds, code_run, code_step, code_enter}
 use Rattle.sw_job.specs.Values.{Outcome as CodeOutcome, Gives as CodeGives, Traps as CodeTraps, Wrong as CodeWrong}
-use Rattle.sw_job.specs.Typed.{TypedLeft, all_ahead, Safe, Begins}
+use Rattle.sw_job.specs.Typed.{TypedLeft, all_ahead, Safe, SafeEntry}
 use Rattle.sw_thin.specs.declared.machine.Next.{Next}
-use Rattle.sw_thin.specs.declared.machine.Next.TheVariants.{Goes, Stops, Bad}
+use Rattle.sw_thin.specs.declared.machine.Next.TheVariants.{Goes, Stops, NoStep}
 use Rattle.sw_thin.specs.declared.machine.Outcome.{Outcome}
 use Rattle.sw_thin.specs.declared.machine.Outcome.TheVariants.{Gives, Traps, Wrong}
 
@@ -22,7 +22,7 @@ outcome_of Wrong = CodeWrong
 abbrev pub next_of : Next → List Frame → CodeNext
 next_of (Goes top begun) frames = CodeGoes top frames begun
 next_of (Stops exit begun) frames = CodeStops exit frames begun
-next_of Bad frames = CodeBad
+next_of NoStep frames = CodeNoStep
 
 -- the answer, and the frames that are left, are those of the code
 abbrev pub IsNext : CodeNext → Next → List Frame → Type 0
@@ -41,7 +41,7 @@ pub record StepTo (code : List FuncCode) (max : ℕ) (m : Frame) (ms : List Fram
   pub step : code_step code max m ms begun ≡ next_of answer frames
   pub safe : Safe code max (all_ahead code (m ∷ ms)) begun (next_of answer frames)
 
--- the begin of a typed start
-pub record BeginTo (code : List FuncCode) (given : Given) (start : List Frame) (answer : Next) (frames : List Frame) : Type 0 where
-  pub begin : code_begin code given start ≡ next_of answer frames
-  pub begins : Begins code (all_ahead code start) (next_of answer frames)
+-- a turn entered from a typed start
+pub record EnterTo (code : List FuncCode) (given : Given) (start : List Frame) (answer : Next) (frames : List Frame) : Type 0 where
+  pub enter : code_enter code given start ≡ next_of answer frames
+  pub safe : SafeEntry code (all_ahead code start) (next_of answer frames)

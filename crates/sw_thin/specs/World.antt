@@ -1,6 +1,6 @@
 -- What a world of one root task shows, and when its history is legal.
 use Rattle.std.specs.Prelude.{◌≡◌, ℕ, ◌+◌, ◌<◌, ◌≤◌, ◌^◌, suc, max, List, [], ◌∷◌, ◌++◌, Option, Some, None, Bool, true, false, slice_get}
-use Rattle.sw_thin.specs.ThinTree.{Func}
+use Rattle.sw_thin.specs.Program.{Func}
 use Rattle.sw_base.specs.declared.ids.JobNo.{JobNo}
 use Rattle.sw_job.specs.declared.value.TrapKind.{TrapKind}
 use Rattle.sw_job.specs.declared.value.Value.TheVariants.{Void}
@@ -25,15 +25,15 @@ use Rattle.sw_thin.specs.declared.world.Job.TheVariants.{Ready, Ended, Trapped, 
 use Rattle.sw_thin.specs.Meaning.{TreeFrame}
 use Rattle.sw_thin.specs.Carries.{Alike, Carries}
 use Rattle.sw_thin.specs.State.{Activation, MeaningState}
-use Rattle.sw_thin.specs.History.{start, IsKept}
+use Rattle.sw_thin.specs.History.{start_state, IsKept}
 
 -- the entry of a turn that began so many statements
 abbrev pub turn_entry : JobNo → ℕ → Entry
 turn_entry j begun = record { event = Turn j; labels = Go j (max 1 begun) ∷ [] }
 
--- the code; the number of the root task's func; its job; the lines printed; the statements begun; and the events
--- with their labels
-pub record Run : Type 0 where
+-- what contracts see of a world: the code; the number of the root task's func; its job; the lines printed; the
+-- statements begun; and the events with their labels
+pub record WorldState : Type 0 where
   pub code : List FuncCode
   pub main : ℕ
   pub job : Job
@@ -80,13 +80,13 @@ IsOfJob code (Trapped kind) activation = Unit {0}
 IsOfJob code Lost activation = Unit {0}
 
 -- the events are a kept history of this func as the root task, which leads to the state that the world shows
-pub record IsLegal (main : Func) (r : Run) : Type 0 where
+pub record IsLegal (main : Func) (r : WorldState) : Type 0 where
   pub activation : Option Activation
-  pub kept : IsKept (start main) r.history (state_of r.job r.log r.begun activation)
+  pub kept : IsKept (start_state main) r.history (state_of r.job r.log r.begun activation)
   pub of_job : IsOfJob r.code r.job activation
 
 -- the history is legal for every program that the code carries
-abbrev pub IsLegalForAll : Run → Type 0
+abbrev pub IsLegalForAll : WorldState → Type 0
 IsLegalForAll r = (funcs : List Func) (main : Func) → Carries funcs r.code → slice_get funcs r.main ≡ Some main → IsLegal main r
 
 abbrev pub IsTypedJob : List FuncCode → Job → Type 0
@@ -109,13 +109,13 @@ IsLost Ended = ⊥
 IsLost (Trapped kind) = ⊥
 
 -- what a world keeps: its job is typed, its history is legal, and its counts fit
-pub record Sound (r : Run) : Type 0 where
+pub record Sound (r : WorldState) : Type 0 where
   pub typed : IsTypedJob r.code r.job
   pub legal : IsLegalForAll r
   pub fits : r.begun + job_ahead r.code r.job ≤ 2 ^ 64
 
 -- a world is sound, unless its job was lost where memory was wanted: then it is only dropped
-abbrev pub IsSound : Run → Type 0
+abbrev pub IsSound : WorldState → Type 0
 IsSound r = ¬ IsLost r.job → Sound r
 
 abbrev pub is_ready : Job → Bool
@@ -130,11 +130,11 @@ IsAtEnd (Trapped kind) = Unit {0}
 IsAtEnd Lost = Unit {0}
 
 -- the turn of the one job is enabled while it is ready
-abbrev pub IsEnabled : Run → Event → Type 0
+abbrev pub IsEnabled : WorldState → Event → Type 0
 IsEnabled r (Turn j) = (j.0 ≡ 0) × (s : TurnStart) × (r.job ≡ Ready s)
 
 -- one event came, and less is left to do
-pub record Steps (old : Run) (event : Event) (new : Run) : Type 0 where
+pub record Steps (old : WorldState) (event : Event) (new : WorldState) : Type 0 where
   pub code : new.code ≡ old.code
   pub main : new.main ≡ old.main
   pub labels : List Label
@@ -150,11 +150,11 @@ next_job (Trap kind) frames = Trapped kind
 next_job Slice frames = Ready (record { frames = frames; given = Nothing })
 
 -- the line that a turn prints, by its exit
-abbrev pub line_of : Exit → Option (List ℕ)
-line_of (Ask (AskPrint text)) = Some text
-line_of (Return v) = None
-line_of (Trap kind) = None
-line_of Slice = None
+abbrev pub printed_line : Exit → Option (List ℕ)
+printed_line (Ask (AskPrint text)) = Some text
+printed_line (Return v) = None
+printed_line (Trap kind) = None
+printed_line Slice = None
 
 -- the lines printed, with one more, if there is one
 abbrev pub with_line : List (List ℕ) → Option (List ℕ) → List (List ℕ)

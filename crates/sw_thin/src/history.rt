@@ -26,7 +26,9 @@ pub struct Entry {
 /// How a root task has ended.
 #[derive(Clone, Copy, Debug, PartialEq, Eq)]
 pub enum TaskEnd {
+    /// Its func has returned.
     Returned,
+    /// It has not ended.
     Unfinished,
 }
 

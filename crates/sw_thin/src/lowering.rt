@@ -2,13 +2,13 @@
 
 ghost use Rattle.std.specs.Prelude.{◌≡◌, ◌++◌, ◌∷◌, [], length, IfOk, OnOk};
 ghost use Rattle.std.specs.List.{AllByRecursion};
-ghost use Rattle.sw_thin.specs.ThinTrees.{expr_of, func_of, funcs_of, stmt_of};
-ghost use Rattle.sw_thin.specs.Codes.{declares, depth_of, expr_code, expr_in, expr_shapes, func_code, print_shapes, stmt_code, stmt_shapes, type_of, var_type, vars_after, IsTypedBody};
+ghost use Rattle.sw_thin.specs.ProgramView.{expr_of, func_of, funcs_of, stmt_of};
+ghost use Rattle.sw_thin.specs.Lowering.{declares, depth_of, expr_code, expr_in, expr_shapes, func_code, print_shapes, stmt_code, stmt_shapes, type_of, var_type, vars_after, IsTypedBody};
 ghost use Rattle.sw_job.specs.declared.instr.Instr.TheVariants.{Discard, Print, Take};
 ghost use Rattle.sw_thin.specs.Carries.{Carries};
 ghost use Rattle.sw_thin.specs.Drafts.{is_named_at, scope_of};
 
-use crate::thin::{Expr, Func, Stmt, Tree};
+use crate::program::{Expr, Func, Program, Stmt};
 use std::alloc::Global;
 use std::marker::Model;
 use sw_base::{Duplicate, Items, NoMemory, Stack, Text};
@@ -72,7 +72,7 @@ impl Vars {
     }
 
     /// The type of the newest variable of a name.
-    fn type_of(&self, name: &Text) -> Option<Ty>
+    fn var_type(&self, name: &Text) -> Option<Ty>
         ensures { result ≡ var_type name.now self.now }
     {
         match self.declared.get(self.newer_than(name)) {
@@ -139,7 +139,7 @@ fn type_of(vars: &Vars, expr: &Expr) -> Ty
     match expr {
         Expr::Int(_) | Expr::Add(_, _) => Ty::Int,
         Expr::Str(_) => Ty::Str,
-        Expr::Var(name) => vars.type_of(name).unwrap_or(Ty::Void),
+        Expr::Var(name) => vars.var_type(name).unwrap_or(Ty::Void),
     }
 }
 
@@ -179,14 +179,14 @@ fn put_stmt(alloc: Global, draft: &mut Draft, vars: &mut Vars, stmt: &Stmt) -> R
     ensures shapes { OnOk result (draft.new.shapes ≡ draft.old.shapes ++ stmt_shapes (length vars.old) (type_of vars.old (expr_in (stmt_of stmt.now))) (stmt_of stmt.now)) }
     ensures vars { OnOk result (vars.new ≡ vars_after vars.old (stmt_of stmt.now)) }
 {
-    draft.put(vars, Stack::new(alloc), Instr::Begin)?;
+    draft.put(vars, Stack::new(alloc), Instr::BeginStmt)?;
     match stmt {
         Stmt::Let(name, expr) => put_let(alloc, draft, vars, name, expr),
         Stmt::Print(expr) => put_print(alloc, draft, vars, expr),
     }
 }
 
-// What follows the begin of a `let`: the value stays where it was evaluated.
+// What follows `BeginStmt` in a `let`: the value stays where it was evaluated.
 fn put_let(
     alloc: Global,
     draft: &mut Draft,
@@ -205,7 +205,7 @@ fn put_let(
     vars.declare(name.copy()?, ty)
 }
 
-// What follows the begin of a `print`.
+// What follows `BeginStmt` in a `print`.
 fn put_print(alloc: Global, draft: &mut Draft, vars: &Vars, expr: &Expr) -> Result<(), NoMemory>
     ensures variables { OnOk result (draft.new.variables ≡ draft.old.variables) }
     ensures instrs { OnOk result (draft.new.instrs ≡ draft.old.instrs ++ (expr_code (scope_of [] vars.now) (expr_of expr.now) ++ Print ∷ Take ∷ Discard 1 ∷ [])) }
@@ -242,16 +242,17 @@ fn lower_func(alloc: Global, func: &Func) -> Result<FuncCode, NoMemory>
 }
 
 /// The code of a program, whose bodies are typed.
-pub fn lower(alloc: Global, tree: &Tree) -> Result<Code, NoMemory>
-    requires { AllByRecursion (λ f. IsTypedBody [] f.body) (funcs_of tree.now) }
-    ensures { IfOk result (λ code. Carries (funcs_of tree.now) code) }
+pub fn lower(alloc: Global, program: &Program) -> Result<Code, NoMemory>
+    requires { AllByRecursion (λ f. IsTypedBody [] f.body) (funcs_of program.now) }
+    ensures { IfOk result (λ code. Carries (funcs_of program.now) code) }
 {
     let mut funcs = Items::new(alloc);
-    let from = tree.funcs.as_slice();
+    let from = program.funcs.as_slice();
     for func in from {
         funcs.push(lower_func(alloc, func)?)?;
     }
     let code = Code::new(funcs);
+    // For its clause `never_stuck`: only then does the code carry the program.
     let _ = code.funcs();
     Ok(code)
 }

@@ -2,14 +2,14 @@
 
 ghost use Rattle.std.specs.Prelude.{◌≡◌, ◌+◌, ◌<◌, ◌≤◌, List, [], ◌∷◌, drop, IfOk};
 ghost use Rattle.std.specs.Bool.{OnTrue};
-ghost use Rattle.sw_job.specs.Machine.{frame, fetch, is_take, code_act, code_begin, code_give, code_step, CodeEnds, CodeReaches};
+ghost use Rattle.sw_job.specs.Machine.{frame, fetch, is_take, code_act, code_enter, code_give, code_step, CodeEnds, CodeReaches};
 ghost use Rattle.sw_job.specs.Values.{printed, sum_of};
 ghost use Rattle.sw_job.specs.Typed.{all_ahead, TypedFrames, TypedLeft, TypedStart};
-ghost use Rattle.sw_job.specs.declared.instr.Instr.TheVariants.{Add, Begin, Load, Print};
+ghost use Rattle.sw_job.specs.declared.instr.Instr.TheVariants.{Add, BeginStmt, Load, Print};
 ghost use Rattle.sw_job.specs.declared.turn.Frame.{Frame};
 ghost use Rattle.sw_job.specs.declared.turn.Given.TheVariants.{Value as GivenValue};
 ghost use Rattle.sw_job.specs.declared.turn.Operand.TheVariants.{Value as Operation};
-ghost use Rattle.sw_thin.specs.Turn.{outcome_of, BeginTo, IsNext, RunEnds, StepTo};
+ghost use Rattle.sw_thin.specs.Turn.{outcome_of, EnterTo, IsNext, RunEnds, StepTo};
 
 use std::alloc::Global;
 use sw_base::{Duplicate, NoMemory, Stack, Text};
@@ -17,7 +17,7 @@ use sw_job::{
     Ask, Code, Exit, Frame, Frames, Given, Instr, Operand, TrapKind, TurnEnd, TurnStart, Value,
 };
 
-/// What an instruction leads to, beside the frames below, which it changes in place.
+/// What an instruction leads to, beside the frames below, which it changes.
 #[derive(Drop)]
 enum Next {
     /// This frame is on top, and so many statements were begun.
@@ -25,7 +25,7 @@ enum Next {
     /// The turn ends.
     Stops(Exit, u64),
     /// The instruction has no meaning here: typed code never comes to it.
-    Bad,
+    NoStep,
 }
 
 /// What an operator gives.
@@ -44,7 +44,7 @@ enum Outcome {
 /// are gone.
 pub fn run_job(alloc: Global, code: &Code, start: TurnStart, max: u64) -> Result<TurnEnd, NoMemory>
     requires typed { TypedStart code.now start.given start.frames }
-    requires some { 1 ≤ max }
+    requires at_least_one { 1 ≤ max }
     ensures run { IfOk result (λ end. CodeReaches code.now max start.given start.frames (CodeEnds end.exit end.frames end.begun)) }
     ensures left { IfOk result (λ end. TypedLeft code.now end.exit end.frames) }
     ensures nearer { IfOk result (λ end. all_ahead code.now end.frames < all_ahead code.now start.frames) }
@@ -52,21 +52,27 @@ pub fn run_job(alloc: Global, code: &Code, start: TurnStart, max: u64) -> Result
     ensures spent { IfOk result (λ end. end.begun + all_ahead code.now end.frames ≤ all_ahead code.now start.frames) }
 {
     let TurnStart { mut frames, given } = start;
-    match typed_begin(code, given, &mut frames)? {
-        Next::Goes(top, _) => run(alloc, code, max, top, frames),
+    match typed_enter(code, given, &mut frames)? {
+        Next::Goes(top, _) => run_frames(alloc, code, max, top, frames),
         Next::Stops(exit, begun) => Ok(TurnEnd {
             exit,
             frames,
             begun,
         }),
-        Next::Bad => unreachable!(),
+        Next::NoStep => unreachable!(),
     }
 }
 
 // Runs typed frames to the end of the turn.
-fn run(alloc: Global, code: &Code, max: u64, top: Frame, below: Frames) -> Result<TurnEnd, NoMemory>
+fn run_frames(
+    alloc: Global,
+    code: &Code,
+    max: u64,
+    top: Frame,
+    below: Frames,
+) -> Result<TurnEnd, NoMemory>
     requires typed { TypedFrames code.now top below }
-    requires some { 1 ≤ max }
+    requires at_least_one { 1 ≤ max }
     ensures { IfOk result (RunEnds code.now max top below) }
 {
     let mut top = top;
@@ -85,19 +91,19 @@ fn run(alloc: Global, code: &Code, max: u64, top: Frame, below: Frames) -> Resul
                     begun,
                 });
             }
-            Next::Bad => unreachable!(),
+            Next::NoStep => unreachable!(),
         }
     }
 }
 
-// The begin of a typed start, which has a meaning.
-fn typed_begin(code: &Code, given: Given, frames: &mut Frames) -> Result<Next, NoMemory>
+// Enters a turn from a typed start, which has a meaning.
+fn typed_enter(code: &Code, given: Given, frames: &mut Frames) -> Result<Next, NoMemory>
     requires { TypedStart code.now given frames.old }
-    ensures { IfOk result (λ next. BeginTo code.now given frames.old next frames.new) }
+    ensures { IfOk result (λ next. EnterTo code.now given frames.old next frames.new) }
 {
-    // The call says what holds of typed code.
+    // For its clause `entries`: each typed start is entered safely.
     let _funcs = code.funcs();
-    begin(code, given, frames)
+    enter(code, given, frames)
 }
 
 // One instruction of typed frames, which has a meaning.
@@ -113,14 +119,14 @@ fn typed_step(
     requires counted { begun ≤ max }
     ensures { IfOk result (λ next. StepTo code.now max top below.old begun next below.new) }
 {
-    // As in `typed_begin`.
+    // For its clause `steps`: each step of typed frames is safe.
     let _funcs = code.funcs();
     step(alloc, code, max, top, below, begun)
 }
 
-// Hands in what the job is given.
-fn begin(code: &Code, given: Given, frames: &mut Frames) -> Result<Next, NoMemory>
-    ensures { IfOk result (λ next. IsNext (code_begin code.now given frames.old) next frames.new) }
+// Enters a turn: hands in what the job is given.
+fn enter(code: &Code, given: Given, frames: &mut Frames) -> Result<Next, NoMemory>
+    ensures { IfOk result (λ next. IsNext (code_enter code.now given frames.old) next frames.new) }
 {
     match given {
         Given::Nothing => Ok(go_on(code, frames)),
@@ -130,20 +136,20 @@ fn begin(code: &Code, given: Given, frames: &mut Frames) -> Result<Next, NoMemor
 
 // Goes on where no value is awaited.
 fn go_on(code: &Code, frames: &mut Frames) -> Next
-    ensures { IsNext (code_begin code.now Given.Nothing frames.old) result frames.new }
+    ensures { IsNext (code_enter code.now Given.Nothing frames.old) result frames.new }
 {
     match frames.pop() {
         Some(top) if !awaits(code, &top) => Next::Goes(top, 0),
-        _ => Next::Bad,
+        _ => Next::NoStep,
     }
 }
 
 // Goes on with the value that is awaited.
 fn resume(code: &Code, value: Value, frames: &mut Frames) -> Result<Next, NoMemory>
-    ensures { IfOk result (λ next. IsNext (code_begin code.now (GivenValue value) frames.old) next frames.new) }
+    ensures { IfOk result (λ next. IsNext (code_enter code.now (GivenValue value) frames.old) next frames.new) }
 {
     if frames.is_empty() {
-        return Ok(Next::Bad);
+        return Ok(Next::NoStep);
     }
     give(code, value, frames, 0)
 }
@@ -160,14 +166,14 @@ fn step(
     ensures { IfOk result (λ next. IsNext (code_step code.now max top below.old begun) next below.new) }
 {
     let Some(func) = code.func(top.func) else {
-        return Ok(Next::Bad);
+        return Ok(Next::NoStep);
     };
-    let Some(instr) = func.instrs.get(top.place) else {
-        return Ok(Next::Bad);
+    let Some(instr) = func.instrs.get(top.address) else {
+        return Ok(Next::NoStep);
     };
-    // A place in the code is below a length, so the next one is still a `usize`.
+    // For its clause: an address in the code is below a length, so the next one is still a `usize`.
     let count = func.instrs.len();
-    prove!(top.place < count);
+    prove!(top.address < count);
     act(alloc, code, max, instr, top, below, begun)
 }
 
@@ -181,17 +187,17 @@ fn act(
     below: &mut Frames,
     begun: u64,
 ) -> Result<Next, NoMemory>
-    requires { top.place < usize.MAX }
-    ensures { IfOk result (λ next. IsNext (code_act code.now max instr.now top.func.0 top.place top.operands below.old begun) next below.new) }
+    requires { top.address < usize.MAX }
+    ensures { IfOk result (λ next. IsNext (code_act code.now max instr.now top.func.0 top.address top.operands below.old begun) next below.new) }
 {
     match instr {
-        Instr::Begin => begin_statement(max, top, below, begun),
+        Instr::BeginStmt => begin_statement(max, top, below, begun),
         Instr::PushInt(n) => push(Value::Int(*n), top, begun),
         Instr::PushStr(text) => push_text(alloc, text, top, begun),
         Instr::Load(depth) => load(*depth, top, begun),
         Instr::Add => add(alloc, top, below, begun),
         Instr::Print => print(alloc, top, below, begun),
-        Instr::Take => Ok(Next::Bad),
+        Instr::Take => Ok(Next::NoStep),
         Instr::Discard(count) => Ok(discard(*count, top, begun)),
         Instr::ReturnVoid => give(code, Value::Void, below, begun),
     }
@@ -199,8 +205,8 @@ fn act(
 
 // Begins a statement, or ends the turn just before it.
 fn begin_statement(max: u64, top: Frame, below: &mut Frames, begun: u64) -> Result<Next, NoMemory>
-    requires { top.place < usize.MAX }
-    ensures { IfOk result (λ next. IsNext (code_act [] max Begin top.func.0 top.place top.operands below.old begun) next below.new) }
+    requires { top.address < usize.MAX }
+    ensures { IfOk result (λ next. IsNext (code_act [] max BeginStmt top.func.0 top.address top.operands below.old begun) next below.new) }
 {
     if begun < max {
         Ok(Next::Goes(advanced(top), begun + 1))
@@ -212,8 +218,8 @@ fn begin_statement(max: u64, top: Frame, below: &mut Frames, begun: u64) -> Resu
 
 // The string is the job's own: it is allocated by `alloc`.
 fn push_text(alloc: Global, text: &Text, top: Frame, begun: u64) -> Result<Next, NoMemory>
-    requires { top.place < usize.MAX }
-    ensures { IfOk result (λ next. next ≡ Next.Goes (frame top.func.0 (top.place + 1) (Operation (Value.Str text.now) ∷ top.operands)) begun) }
+    requires { top.address < usize.MAX }
+    ensures { IfOk result (λ next. next ≡ Next.Goes (frame top.func.0 (top.address + 1) (Operation (Value.Str text.now) ∷ top.operands)) begun) }
 {
     let text = Text::from_bytes(alloc, text.as_bytes())?;
     push(Value::Str(text), top, begun)
@@ -221,11 +227,11 @@ fn push_text(alloc: Global, text: &Text, top: Frame, begun: u64) -> Result<Next,
 
 // A copy of the operand at this depth.
 fn load(depth: usize, top: Frame, begun: u64) -> Result<Next, NoMemory>
-    requires { top.place < usize.MAX }
-    ensures { IfOk result (λ next. (below : List Frame) → IsNext (code_act [] 0 (Load depth) top.func.0 top.place top.operands below begun) next below) }
+    requires { top.address < usize.MAX }
+    ensures { IfOk result (λ next. (below : List Frame) → IsNext (code_act [] 0 (Load depth) top.func.0 top.address top.operands below begun) next below) }
 {
     let Some(Operand::Value(held)) = top.operands.get(depth) else {
-        return Ok(Next::Bad);
+        return Ok(Next::NoStep);
     };
     let copied = held.copy()?;
     push(copied, top, begun)
@@ -233,27 +239,27 @@ fn load(depth: usize, top: Frame, begun: u64) -> Result<Next, NoMemory>
 
 // The sum of the two newest operands, of which the newest is the right one; or a trap, which no frame outlives.
 fn add(alloc: Global, top: Frame, below: &mut Frames, begun: u64) -> Result<Next, NoMemory>
-    requires { top.place < usize.MAX }
-    ensures { IfOk result (λ next. IsNext (code_act [] 0 Add top.func.0 top.place top.operands below.old begun) next below.new) }
+    requires { top.address < usize.MAX }
+    ensures { IfOk result (λ next. IsNext (code_act [] 0 Add top.func.0 top.address top.operands below.old begun) next below.new) }
 {
     let mut rest = top;
     let Some(Operand::Value(right)) = rest.operands.pop() else {
-        return Ok(Next::Bad);
+        return Ok(Next::NoStep);
     };
     let Some(Operand::Value(left)) = rest.operands.pop() else {
-        return Ok(Next::Bad);
+        return Ok(Next::NoStep);
     };
-    match sum(left, right) {
+    match sum_values(left, right) {
         Outcome::Gives(value) => push(value, rest, begun),
         Outcome::Traps(kind) => {
             *below = Stack::new(alloc);
             Ok(Next::Stops(Exit::Trap(kind), begun))
         }
-        Outcome::Wrong => Ok(Next::Bad),
+        Outcome::Wrong => Ok(Next::NoStep),
     }
 }
 
-fn sum(left: Value, right: Value) -> Outcome
+fn sum_values(left: Value, right: Value) -> Outcome
     ensures { outcome_of result ≡ sum_of left right }
 {
     match (left, right) {
@@ -267,19 +273,19 @@ fn sum(left: Value, right: Value) -> Outcome
 
 // The newest operand is asked to be printed, and what the ask gives is awaited.
 fn print(alloc: Global, top: Frame, below: &mut Frames, begun: u64) -> Result<Next, NoMemory>
-    requires { top.place < usize.MAX }
-    ensures { IfOk result (λ next. IsNext (code_act [] 0 Print top.func.0 top.place top.operands below.old begun) next below.new) }
+    requires { top.address < usize.MAX }
+    ensures { IfOk result (λ next. IsNext (code_act [] 0 Print top.func.0 top.address top.operands below.old begun) next below.new) }
 {
     let mut waiting = advanced(top);
     let Some(Operand::Value(value)) = waiting.operands.pop() else {
-        return Ok(Next::Bad);
+        return Ok(Next::NoStep);
     };
     match text_of(alloc, value)? {
         Some(text) => {
             below.push(waiting)?;
             Ok(Next::Stops(Exit::Ask(Ask::Print(text)), begun))
         }
-        None => Ok(Next::Bad),
+        None => Ok(Next::NoStep),
     }
 }
 
@@ -295,8 +301,8 @@ fn text_of(alloc: Global, value: Value) -> Result<Option<Text>, NoMemory>
 }
 
 fn discard(count: usize, top: Frame, begun: u64) -> Next
-    requires { top.place < usize.MAX }
-    ensures { result ≡ Next.Goes (frame top.func.0 (top.place + 1) (drop count top.operands)) begun }
+    requires { top.address < usize.MAX }
+    ensures { result ≡ Next.Goes (frame top.func.0 (top.address + 1) (drop count top.operands)) begun }
 {
     let mut top = advanced(top);
     top.operands.discard(count);
@@ -313,46 +319,46 @@ fn give(code: &Code, value: Value, below: &mut Frames, begun: u64) -> Result<Nex
             if awaits(code, &caller) {
                 push(value, caller, begun)
             } else {
-                Ok(Next::Bad)
+                Ok(Next::NoStep)
             }
         }
     }
 }
 
-// One more operand, at the next place.
+// One more operand, at the next address.
 fn push(value: Value, top: Frame, begun: u64) -> Result<Next, NoMemory>
-    requires { top.place < usize.MAX }
-    ensures { IfOk result (λ next. next ≡ Next.Goes (frame top.func.0 (top.place + 1) (Operation value ∷ top.operands)) begun) }
+    requires { top.address < usize.MAX }
+    ensures { IfOk result (λ next. next ≡ Next.Goes (frame top.func.0 (top.address + 1) (Operation value ∷ top.operands)) begun) }
 {
     let mut top = advanced(top);
     top.operands.push(Operand::Value(value))?;
     Ok(Next::Goes(top, begun))
 }
 
-// The frame at its next place.
+// The frame at its next address.
 fn advanced(top: Frame) -> Frame
-    requires { top.place < usize.MAX }
-    ensures { result ≡ frame top.func.0 (top.place + 1) top.operands }
+    requires { top.address < usize.MAX }
+    ensures { result ≡ frame top.func.0 (top.address + 1) top.operands }
 {
     Frame {
-        place: top.place + 1,
+        address: top.address + 1,
         ..top
     }
 }
 
 // Tells whether a frame stands where a value is awaited.
 fn awaits(code: &Code, waiting: &Frame) -> bool
-    ensures take { result ≡ is_take (fetch code.now waiting.now.func.0 waiting.now.place) }
-    ensures within { OnTrue result (waiting.now.place < usize.MAX) }
+    ensures take { result ≡ is_take (fetch code.now waiting.now.func.0 waiting.now.address) }
+    ensures within { OnTrue result (waiting.now.address < usize.MAX) }
 {
     let Some(func) = code.func(waiting.func) else {
         return false;
     };
-    // As in `step`, the place is below a length.
+    // For its clause: the address is below a length, as in `step`.
     let count = func.instrs.len();
-    match func.instrs.get(waiting.place) {
+    match func.instrs.get(waiting.address) {
         Some(Instr::Take) => {
-            prove!(waiting.place < count);
+            prove!(waiting.address < count);
             true
         }
         _ => false,

@@ -3,7 +3,7 @@
 ghost use Rattle.std.specs.Prelude.{◌≡◌, ◌<◌, ◌+◌, [], ◌∷◌, ◌++◌, Some, None, IfOk, OnOk, IsErrOf, MatchOption, vec_len, vec_capacity, length};
 ghost use Rattle.sw_job.specs.Machine.{frame};
 ghost use Rattle.sw_job.specs.declared.turn.Given.TheVariants.{Nothing};
-ghost use Rattle.sw_thin.specs.World.{next_job, line_of, with_line, turn_entry};
+ghost use Rattle.sw_thin.specs.World.{next_job, printed_line, with_line, turn_entry};
 ghost use Rattle.sw_thin.specs.declared.history.Event.TheVariants.{Turn};
 
 use crate::history::{Entry, Event, Label, TaskEnd, TaskLine};
@@ -72,9 +72,9 @@ pub struct World {
 }
 
 impl Model for World {
-    ghost use Rattle.sw_thin.specs.World.{Run, IsSound};
+    ghost use Rattle.sw_thin.specs.World.{WorldState, IsSound};
 
-    ghost Value = { Run };
+    ghost Value = { WorldState };
 
     ghost view = { λ w. record { code = w.code; main = w.main.0; job = w.job; log = w.log; begun = w.begun; history = w.history.items } };
 
@@ -99,7 +99,7 @@ fn entry_frames(alloc: Global, func: FuncNo) -> Result<Frames, NoMemory>
     let mut frames = Stack::new(alloc);
     frames.push(Frame {
         func,
-        place: 0,
+        address: 0,
         operands: Stack::new(alloc),
     })?;
     Ok(frames)
@@ -120,7 +120,7 @@ fn turn_entry(alloc: Global, job: JobNo, begun: u64) -> Result<Entry, NoMemory>
 // What a turn leaves by its exit: the job, and the line that is to be printed, if any.
 fn left_by(exit: Exit, frames: Frames) -> (Job, Option<Text>)
     ensures job { result.0 ≡ next_job exit frames }
-    ensures line { result.1 ≡ line_of exit }
+    ensures line { result.1 ≡ printed_line exit }
 {
     match exit {
         Exit::Ask(Ask::Print(line)) => {
@@ -137,7 +137,7 @@ fn left_by(exit: Exit, frames: Frames) -> (Job, Option<Text>)
 }
 
 // Adds a line to a log, if there is one.
-fn print_line(log: &mut Texts, line: Option<Text>) -> Result<(), NoMemory>
+fn append_line(log: &mut Texts, line: Option<Text>) -> Result<(), NoMemory>
     ensures { OnOk result (log.new ≡ with_line log.old line) }
 {
     match line {
@@ -147,7 +147,7 @@ fn print_line(log: &mut Texts, line: Option<Text>) -> Result<(), NoMemory>
 }
 
 impl World {
-    ghost use Rattle.sw_thin.specs.World.{Run, IsAtEnd, IsEnabled, is_ready, IsLegalForAll, IsLost, Steps, job_ahead, the_task, trap_of};
+    ghost use Rattle.sw_thin.specs.World.{WorldState, IsAtEnd, IsEnabled, is_ready, IsLegalForAll, IsLost, Steps, job_ahead, the_task, trap_of};
 
     /// A world in which nothing has happened yet. Its root task is a func of the code.
     pub fn new(alloc: Global, code: Code, main: FuncNo) -> Result<World, NoMemory>
@@ -158,7 +158,7 @@ impl World {
         let Some(func) = code.func(main) else {
             unreachable!()
         };
-        // The statements of a run are at most the instructions, and so are within a `usize`.
+        // For its clause: a length is a `usize`, and the statements of a run are at most the instructions.
         let _ = func.instrs.len();
         Ok(World {
             alloc,
@@ -212,7 +212,7 @@ impl World {
         let entry = turn_entry(self.alloc, job, begun)?;
         self.history.reserve(1)?;
         let (left, line) = left_by(exit, frames);
-        print_line(&mut self.log, line)?;
+        append_line(&mut self.log, line)?;
         push_reserved(&mut self.history, entry);
         self.begun += begun;
         self.job = left;

@@ -12,8 +12,8 @@ use Rattle.sw_lex.specs.Rules as tokens
 use Rattle.sw_lex.specs.Lexing.{IsOnlyCut}
 use Rattle.sw_tree.specs.declared.decl.Tree.{Tree}
 use Rattle.sw_syntax.specs.Tokens.{sighted}
-use Rattle.sw_syntax.specs.Symbols.{File}
-use Rattle.sw_syntax.specs.Meaning.{Spells, source_room}
+use Rattle.sw_syntax.specs.Nonterminals.{File}
+use Rattle.sw_syntax.specs.Meaning.{Spells, source_budget}
 use Rattle.sw_syntax.specs.Refusals as grammar
 use Rattle.sw_parse_decl.specs.Parsed.{IsOnlyTree, HasNoTree}
 use Rattle.swda.specs.ReadAs.{First, IsRead, IsRefused, IsRefusedBy, HasTree, Refuses, RefusesTokens}
@@ -45,14 +45,14 @@ module _ (source : Text) (found : List Token) (cut : CutsInto source found) (onl
   by_parser (Refused refusal) first none =
       refused_so source refusal
       (first_of_later (tokens.Refuses source) (RefusesTokens source) refusal unbroken (same_first (grammar.Refuses File found 0) (RefusesTokens source) refusal of_tokens to_tokens first))
-      (λ tree (others, (cut', unbroken'), spells, rest). none tree (subst (λ ts. Spells false File source_room (sighted ts) tree) (only others cut') spells))
+      (λ tree (others, (cut', unbroken'), spells, rest). none tree (subst (λ ts. Spells false File source_budget (sighted ts) tree) (only others cut') spells))
   by_parser NoMemory first none = tt
 
   -- the parser read them
-  pub by_both : (tree : Tree) → Spells false File source_room (sighted found) tree → IsOnlyTree found tree → RefusesNone (grammar.Refuses File found 0) → IsRead source tree
+  pub by_both : (tree : Tree) → Spells false File source_budget (sighted found) tree → IsOnlyTree found tree → RefusesNone (grammar.Refuses File found 0) → IsRead source tree
   by_both tree spells one sound = record {
     has = (found, (cut, unbroken), spells, sound);
-    only = λ other (others, (cut', unbroken'), spells', rest). one source_room other (subst (λ ts. Spells false File source_room (sighted ts) other) (only others cut') spells');
+    only = λ other (others, (cut', unbroken'), spells', rest). one source_budget other (subst (λ ts. Spells false File source_budget (sighted ts) other) (only others cut') spells');
     unbroken = never;
     sound = λ refusal first. never refusal first.refused;
   }
@@ -61,7 +61,7 @@ module _ (source : Text) (found : List Token) (cut : CutsInto source found) (onl
       never = none_of_both (tokens.Refuses source) (RefusesTokens source) unbroken (λ refusal h. sound refusal (to_tokens refusal h))
 
   -- of the parser's answer for these tokens
-  pub read_so : (r : Result Tree FrontError) → IfOk r (λ tree. Spells false File source_room (sighted found) tree) → IfOk r (λ tree. IsOnlyTree found tree)
+  pub read_so : (r : Result Tree FrontError) → IfOk r (λ tree. Spells false File source_budget (sighted found) tree) → IfOk r (λ tree. IsOnlyTree found tree)
       → IfOk r (λ tree. RefusesNone (grammar.Refuses File found 0)) → IfOk r (λ tree. IsRead source tree)
   read_so (Err error) spells one sound = tt
   read_so (Ok tree) spells one sound = by_both tree spells one sound

@@ -1,5 +1,5 @@
 -- The words of this crate's contracts.
 pub mod ReadAs
 pub mod Calls
-pub mod Answers
+pub mod Answered
 pub mod ExitCodes

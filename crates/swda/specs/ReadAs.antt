@@ -10,18 +10,19 @@ use Rattle.sw_lex.specs.Tokens.{CutsInto}
 use Rattle.sw_lex.specs.Rules as tokens
 use Rattle.sw_tree.specs.declared.decl.Tree.{Tree}
 use Rattle.sw_syntax.specs.Tokens.{sighted}
-use Rattle.sw_syntax.specs.Symbols.{File}
-use Rattle.sw_syntax.specs.Meaning.{Spells, source_room}
+use Rattle.sw_syntax.specs.Nonterminals.{File}
+use Rattle.sw_syntax.specs.Meaning.{Spells, source_budget}
 use Rattle.sw_syntax.specs.Refusals as grammar
 
 -- the source breaks no rule of tokens, and is cut into these
 abbrev pub HasTokens : Text → List Token → Type 0
 HasTokens source found = CutsInto source found × RefusesNone (tokens.Refuses source)
 
--- its tokens break no rule of the grammar, and spell this tree
+-- its tokens spell this tree, and break no rule of the grammar. No definition makes one of the two follow from the other,
+-- so both are asked
 abbrev pub HasTree : Text → Tree → Type 0
 HasTree source tree =
-    (found : List Token) × HasTokens source found × Spells false File source_room (sighted found) tree × RefusesNone (grammar.Refuses File found 0)
+    (found : List Token) × HasTokens source found × Spells false File source_budget (sighted found) tree × RefusesNone (grammar.Refuses File found 0)
 
 -- the pass over the grammar: the tokens that the source is cut into break the rule at the place
 abbrev pub RefusesTokens : Text → Refusal → Type 0
@@ -48,7 +49,7 @@ pub record IsRefused (source : Text) (refusal : Refusal) : Type 0 where
   pub only : (other : Refusal) → First source other → other ≡ refusal
   pub none : (tree : Tree) → HasTree source tree → ⊥
 
--- want of memory says nothing
+-- a refusal has its cause; want of memory says nothing of the source
 abbrev pub IsRefusedBy : Text → FrontError → Type 0
 IsRefusedBy source (Refused refusal) = IsRefused source refusal
 IsRefusedBy source NoMemory = Unit {0}

@@ -2,7 +2,7 @@
 
 ghost use Rattle.std.specs.Prelude.{◌≡◌, ℕ, List, drop, slice_get, IfOk, IfSome};
 ghost use Rattle.std.specs.Process.{exit_status};
-ghost use Rattle.swda.specs.Answers.{Answered};
+ghost use Rattle.swda.specs.Answered.{Answered};
 ghost use Rattle.swda.specs.ExitCodes.{code_of};
 
 use crate::status::Status;
@@ -14,13 +14,13 @@ use sw_base::{Items, NoMemory, Text, Texts};
 use sw_outside::{CommandLine, Loader, Sink};
 
 /// The length of a word that fits at the first try.
-const FIRST_ROOM: usize = 256;
+const FIRST_LENGTH: usize = 256;
 
 /// The word of this number, which need not be UTF-8; none past the last word.
 fn word<C: CommandLine>(alloc: Global, line: &C, number: usize) -> Result<Option<Text>, NoMemory>
     ensures { IfOk result (λ word. IfSome (C.words line.now) (λ words. word ≡ slice_get words number)) }
 {
-    let mut buffer = vec![in alloc; 0u8; FIRST_ROOM]?;
+    let mut buffer = vec![in alloc; 0u8; FIRST_LENGTH]?;
     for _ in 0..usize::BITS {
         match line.word(number, buffer.as_mut_slice()) {
             Ok(length) => return Ok(Some(Text::from_bytes(alloc, &buffer[..length])?)),

@@ -7,7 +7,6 @@ use std::alloc::Global;
 use sw_lex::lex;
 use sw_parse_decl::parse;
 use sw_rules::FrontError;
-use sw_syntax::lexed_integers_fit;
 use sw_tree::Tree;
 
 /// The tree of a source.
@@ -19,6 +18,5 @@ pub fn read(alloc: Global, source: &[u8]) -> Result<Tree, FrontError>
     ensures refused { IfErr result (λ error. IsRefusedBy source.now error) }
 {
     let tokens = lex(alloc, source)?;
-    lexed_integers_fit();
     parse(alloc, &tokens)
 }

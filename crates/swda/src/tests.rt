@@ -104,7 +104,12 @@ fn source_of(alloc: Global, lines: &[u8]) -> Result<Text, NoMemory> {
 }
 
 /// The report of a run without faults, from its counts and its lines `log`.
-fn report_of(alloc: Global, statements: u64, events: u64, logs: &[u8]) -> Result<Text, NoMemory> {
+fn expected_report(
+    alloc: Global,
+    statements: u64,
+    events: u64,
+    logs: &[u8],
+) -> Result<Text, NoMemory> {
     let mut report = Text::from_bytes(alloc, b"end done\nstatements ")?;
     report.push_all(statements.to_string(alloc)?.as_bytes())?;
     report.push_all(b"\nevents ")?;
@@ -147,7 +152,7 @@ fn expect_run(
     logs: &[u8],
 ) {
     let source = source_of(alloc, lines).expect(rt, "memory");
-    let report = report_of(alloc, statements, events, logs).expect(rt, "memory");
+    let report = expected_report(alloc, statements, events, logs).expect(rt, "memory");
     let files: Files = &[(b"file", source.as_bytes()), (b"plan", PLAN)];
     expect_answer(rt, alloc, call_over(RUN, files), 0, report.as_bytes());
 }

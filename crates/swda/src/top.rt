@@ -3,7 +3,7 @@
 ghost use Rattle.std.specs.Prelude.{◌≡◌, ℕ, ◌≤◌, List, IfOk, MatchOption};
 ghost use Rattle.sw_rules.specs.Refusal.{line_text};
 ghost use Rattle.swda.specs.Calls.{run_words};
-ghost use Rattle.swda.specs.Answers.{usage_text, load_fault_text, not_built_text, IsNoForm, RunSays, Says, Answers, Answered};
+ghost use Rattle.swda.specs.Answered.{usage_text, load_fault_text, not_built_text, IsNoForm, RunSays, Says, Answers, Answered};
 
 use crate::output::write_all;
 use crate::reading::read;
@@ -12,7 +12,7 @@ use std::alloc::Global;
 use sw_base::{Duplicate, NoMemory, Text};
 use sw_outside::{Failed, LoadError, Loader, Sink};
 use sw_rules::{FrontError, Refusal, line};
-use sw_thin::{report_of, thin_body};
+use sw_thin::{run_main, thin_body};
 
 const USAGE: &[u8] =
     b"usage: swda check FILE | list FILE | run FILE PLAN | replay FILE PLAN SCHEDULE | threads FILE PLAN WORKERS | gen SEED SIZE\n";
@@ -21,15 +21,15 @@ const PLAN: &[u8] = b"swda-plan 1\nnodes 1\ntask 0 main\n";
 
 const NOT_BUILT: &[u8] = b"not built\n";
 
-/// A status with the text that is to be written.
+/// The answer to a call: its status, and the text that is to be written.
 #[derive(Drop)]
-struct Said {
+struct Answer {
     status: Status,
     text: Text,
 }
 
 /// The file and the plan of the form `run FILE PLAN`; none where the words are of another form.
-fn run_form(words: &[Text]) -> Option<(&Text, &Text)>
+fn run_arguments(words: &[Text]) -> Option<(&Text, &Text)>
     ensures { MatchOption result (IsNoForm words.now) (λ r. words.now ≡ run_words (record { source = r.0.now; plan = r.1.now })) }
 {
     match words {
@@ -38,52 +38,52 @@ fn run_form(words: &[Text]) -> Option<(&Text, &Text)>
     }
 }
 
-/// What is said where the words are of no form.
-fn usage(alloc: Global) -> Result<Said, NoMemory>
-    ensures { IfOk result (λ said. (said.status ≡ Status.Usage) × (said.text ≡ usage_text)) }
+/// The answer where the words are of no form that is served.
+fn usage(alloc: Global) -> Result<Answer, NoMemory>
+    ensures { IfOk result (λ answer. (answer.status ≡ Status.Usage) × (answer.text ≡ usage_text)) }
 {
-    Ok(Said {
+    Ok(Answer {
         status: Status::Usage,
         text: Text::from_bytes(alloc, USAGE)?,
     })
 }
 
-/// What is said where the file of this name could not be loaded.
-fn load_fault(alloc: Global, name: &Text) -> Result<Said, NoMemory>
-    ensures { IfOk result (λ said. (said.status ≡ Status.LoadFault name.now) × (said.text ≡ load_fault_text name.now)) }
+/// The answer where the file of this name could not be loaded.
+fn load_fault(alloc: Global, name: &Text) -> Result<Answer, NoMemory>
+    ensures { IfOk result (λ answer. (answer.status ≡ Status.LoadFault name.now) × (answer.text ≡ load_fault_text name.now)) }
 {
     let mut text = Text::from_bytes(alloc, b"load fault ")?;
     text.push_all(name.as_bytes())?;
     text.push_all(b"\n")?;
-    Ok(Said {
+    Ok(Answer {
         status: Status::LoadFault { name: name.copy()? },
         text,
     })
 }
 
-/// What is said where the source or the plan is beyond what is built so far.
-fn not_built(alloc: Global) -> Result<Said, NoMemory>
-    ensures { IfOk result (λ said. (said.status ≡ Status.NotBuilt) × (said.text ≡ not_built_text)) }
+/// The answer where the source or the plan is beyond what is built so far.
+fn not_built(alloc: Global) -> Result<Answer, NoMemory>
+    ensures { IfOk result (λ answer. (answer.status ≡ Status.NotBuilt) × (answer.text ≡ not_built_text)) }
 {
-    Ok(Said {
+    Ok(Answer {
         status: Status::NotBuilt,
         text: Text::from_bytes(alloc, NOT_BUILT)?,
     })
 }
 
-/// What is said where the source breaks a rule.
-fn refused(alloc: Global, refusal: Refusal) -> Result<Said, NoMemory>
-    ensures { IfOk result (λ said. (said.status ≡ Status.Refused refusal) × (said.text ≡ line_text refusal)) }
+/// The answer where the source breaks a rule.
+fn refused(alloc: Global, refusal: Refusal) -> Result<Answer, NoMemory>
+    ensures { IfOk result (λ answer. (answer.status ≡ Status.Refused refusal) × (answer.text ≡ line_text refusal)) }
 {
-    Ok(Said {
+    Ok(Answer {
         status: Status::Refused(refusal),
         text: line(alloc, &refusal)?,
     })
 }
 
-/// What is said of the run of a source under a plan.
-fn run(alloc: Global, source: &[u8], plan: &[u8]) -> Result<Said, NoMemory>
-    ensures { IfOk result (λ said. RunSays (record { source = source.now; plan = plan.now }) said.status said.text) }
+/// The answer to `run`, of a source under a plan.
+fn answer_run(alloc: Global, source: &[u8], plan: &[u8]) -> Result<Answer, NoMemory>
+    ensures { IfOk result (λ answer. RunSays (record { source = source.now; plan = plan.now }) answer.status answer.text) }
 {
     let tree = match read(alloc, source) {
         Ok(tree) => tree,
@@ -96,22 +96,22 @@ fn run(alloc: Global, source: &[u8], plan: &[u8]) -> Result<Said, NoMemory>
     let Some(body) = thin_body(alloc, &tree)? else {
         return not_built(alloc);
     };
-    Ok(Said {
+    Ok(Answer {
         status: Status::Done,
-        text: report_of(alloc, body)?,
+        text: run_main(alloc, body)?,
     })
 }
 
-/// What is said of a call, from its words and what the loader gives. The files are asked in the order of the words.
-fn outcome<L: Loader>(alloc: Global, words: &[Text], loader: &mut L) -> Result<Said, NoMemory>
-    ensures says { IfOk result (λ said. Says (record {
+/// The answer to a call, from its words and what the loader gives. The files are asked in the order of the words.
+fn answer_of<L: Loader>(alloc: Global, words: &[Text], loader: &mut L) -> Result<Answer, NoMemory>
+    ensures says { IfOk result (λ answer. Says (record {
       words = words.now;
       before = record { holds = L.holds loader.old; asked = L.asked loader.old; given = L.given loader.old; faults = L.faults loader.old };
       after = record { holds = L.holds loader.new; asked = L.asked loader.new; given = L.given loader.new; faults = L.faults loader.new };
-    }) said.status said.text) }
+    }) answer.status answer.text) }
     ensures later { L.faults loader.old ≤ L.faults loader.new }
 {
-    let Some((file, plan)) = run_form(words) else {
+    let Some((file, plan)) = run_arguments(words) else {
         return usage(alloc);
     };
     let source = match loader.load(file) {
@@ -124,13 +124,14 @@ fn outcome<L: Loader>(alloc: Global, words: &[Text], loader: &mut L) -> Result<S
         Err(LoadError::Failed) => return load_fault(alloc, plan),
         Err(LoadError::NoMemory) => return Err(NoMemory),
     };
-    let said = run(alloc, source.as_bytes(), plan_text.as_bytes())?;
-    Ok(said)
+    // Named, so that the proof speaks of the answer and not of a result.
+    let answer = answer_run(alloc, source.as_bytes(), plan_text.as_bytes())?;
+    Ok(answer)
 }
 
-/// The status of a call, whose text is built whole before its first byte is written.
-fn answer<L: Loader, S: Sink>(alloc: Global, words: &[Text], loader: &mut L, sink: &mut S) -> Status
-    ensures answer { Answers (record {
+/// Answers a call and writes the text of the answer, which is built whole before its first byte is written.
+fn serve<L: Loader, S: Sink>(alloc: Global, words: &[Text], loader: &mut L, sink: &mut S) -> Status
+    ensures answers { Answers (record {
       words = words.now;
       before = record { holds = L.holds loader.old; asked = L.asked loader.old; given = L.given loader.old; faults = L.faults loader.old };
       after = record { holds = L.holds loader.new; asked = L.asked loader.new; given = L.given loader.new; faults = L.faults loader.new };
@@ -142,10 +143,10 @@ fn answer<L: Loader, S: Sink>(alloc: Global, words: &[Text], loader: &mut L, sin
     ensures loads { L.faults loader.old ≤ L.faults loader.new }
     ensures writes { S.faults sink.old ≤ S.faults sink.new }
 {
-    match outcome(alloc, words, loader) {
+    match answer_of(alloc, words, loader) {
         Err(NoMemory) => Status::WantOfMemory,
-        Ok(said) => match write_all(sink, said.text.as_bytes()) {
-            Ok(()) => said.status,
+        Ok(answer) => match write_all(sink, answer.text.as_bytes()) {
+            Ok(()) => answer.status,
             Err(Failed) => Status::WriteFault,
         },
     }
@@ -184,5 +185,5 @@ pub fn swda<L: Loader, S: Sink>(
           after = record { taken = S.taken sink.new; faults = S.faults sink.new };
         }) result }
 {
-    answer(alloc, words, loader, sink)
+    serve(alloc, words, loader, sink)
 }

@@ -39,7 +39,7 @@ pub fn unescaped(alloc: Global, mut text: &[u8]) -> Result<Vec<u8>, Fail> {
 }
 
 /// How many rows are answered as they say, and the first that is not.
-pub fn tried<'a, F: Fn(Global, &[u8]) -> Result<Text, Fail>>(
+pub fn check_rows<'a, F: Fn(Global, &[u8]) -> Result<Text, Fail>>(
     alloc: Global,
     rows: &'a str,
     answer: F,

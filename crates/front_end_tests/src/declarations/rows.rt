@@ -1,7 +1,7 @@
 //! Sources with the trees of their files.
 
-/// Each row is `SOURCE => ANSWER`. The answer is the tree; or the place of the refused token, the first being 0,
-/// behind `full` where it is refused for want of room alone. A row that begins with `-- ` says what follows.
+/// Each row is `SOURCE => ANSWER`. The answer is the tree; or the index of the refused token, the first being 0,
+/// after `over budget` where it is refused for the budget alone. A row that begins with `-- ` says what follows.
 pub const ROWS: &str = r##"
 -- What separates declarations
  => file

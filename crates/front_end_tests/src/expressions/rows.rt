@@ -1,7 +1,7 @@
 //! Tokens of sources with the expression that they begin with.
 
 /// Each row is `SOURCE => ANSWER`. The answer is a refusal, with the rule, the line and the column, or the tree and,
-/// behind `@`, how many tokens it takes. A row that begins with `-- ` says what follows.
+/// after `@`, how many tokens it takes. A row that begins with `-- ` says what follows.
 pub const ROWS: &str = r##"
 -- Each mark
 a * b => (Multiply a b) @3

@@ -52,8 +52,8 @@ pub fn integer(alloc: Global, n: i64) -> Result<Expr, Fail> {
     literal(alloc, Literal::Integer(n))
 }
 
-fn with_pieces(alloc: Global, front: &[u8], pieces: Items<StringPiece>) -> Result<Expr, Fail> {
-    let text = Text::from_bytes(alloc, front)?;
+fn with_pieces(alloc: Global, first: &[u8], pieces: Items<StringPiece>) -> Result<Expr, Fail> {
+    let text = Text::from_bytes(alloc, first)?;
     let text = Boxed::new(alloc, text)?;
     let pieces = Boxed::new(alloc, pieces)?;
     literal(alloc, Literal::String(text, pieces))
@@ -65,10 +65,10 @@ pub fn string(alloc: Global, bytes: &[u8]) -> Result<Expr, Fail> {
 }
 
 /// A string with one expression in it.
-pub fn with_piece(alloc: Global, front: &[u8], value: Expr, rest: &[u8]) -> Result<Expr, Fail> {
+pub fn with_piece(alloc: Global, first: &[u8], value: Expr, rest: &[u8]) -> Result<Expr, Fail> {
     let text = Text::from_bytes(alloc, rest)?;
     let pieces = one(alloc, StringPiece { value, text })?;
-    with_pieces(alloc, front, pieces)
+    with_pieces(alloc, first, pieces)
 }
 
 /// A sign and its operand.

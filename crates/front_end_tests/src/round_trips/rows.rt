@@ -6,7 +6,7 @@ pub struct Row {
     pub text: &'static str,
 }
 
-/// The rows.
+/// Sources, each with the text that is printed of its tree.
 pub const ROWS: [Row; 20] = [
     Row {
         source: "",

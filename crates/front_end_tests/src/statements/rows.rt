@@ -1,8 +1,8 @@
 //! Tokens of sources with the block that they begin with.
 
-/// Each row is `SOURCE => ANSWER`. The answer is the tree and, behind `@`, how many tokens it takes, or the refused
-/// token by how many stand before it, with `full` where there is no room for it. A row that begins with `-- ` says
-/// what follows.
+/// Each row is `SOURCE => ANSWER`. The answer is the tree and, after `@`, how many tokens it takes, or the refused
+/// token by how many stand before it, after `over budget` where it is one bracket or operator too many. A row that
+/// begins with `-- ` says what follows.
 pub const ROWS: &str = r##"
 -- What stands between statements
 {} => {} @2

@@ -2,7 +2,7 @@
 
 /// Each row is `SOURCE => ANSWER`. The answer is a refusal, with the rule, the line and the column, or all tokens: the
 /// kind, the text, the line and the column of each, and three flags, each a letter or `-`: `F`, the first on its line;
-/// `T`, touching the token before; `S`, behind white space. A row that begins with `--` says what follows.
+/// `T`, touching the token before; `S`, after white space. A row that begins with `--` says what follows.
 pub const ROWS: &str = r##"
 -- Reserved words
 any as async await break case catch continue => Any "any" 1:1 F--, As "as" 1:5 --S, Async "async" 1:8 --S, Await "await" 1:14 --S, Break "break" 1:20 --S, Case "case" 1:26 --S, Catch "catch" 1:31 --S, Continue "continue" 1:37 --S, End "" 1:45 -T-
@@ -312,7 +312,7 @@ $ => refused L2 1:1
 a # => refused L2 1:3
 a \xc3\xa9 => refused L2 1:3
 ||| => refused L2 1:3
--- strings with a piece of no form
+-- strings with a malformed piece
 "\\a" => refused L2 1:1
 "\\N" => refused L2 1:1
 "\\x41" => refused L2 1:1

@@ -16,7 +16,7 @@ pub every_append : {T : Type 0} (G : T → Type 0) (v w : List T) → Every G v 
 every_append G [] w p q = q
 every_append G (t ∷ v) w (is, p) q = (is, every_append G v w p q)
 
--- A value may count: where so many more may be counted before it, so many may be behind it.
+-- A value may count: where so many more may be counted before it, so many may be after it.
 abbrev pub Counting : Type 0 → Type 1
 Counting A = ℕ → ℕ → A → Type 0
 
@@ -28,12 +28,12 @@ abbrev pub ThenBuilt : {A B : Type 0} → Counting A → Counting B → (A → B
 ThenBuilt B C goes c c' x None = B c c' x
 ThenBuilt B C goes c c' x (Some y) = (e : ℕ) × B c e x × (goes x ≡ true) × C e c' y
 
-module _ (K V S : Type 0) (Sort : S → Type 0) (rule : (s : S) → Part K V S Sort (Sort s)) (G : (Token K V) → Type 0) where
-  -- The part builds the value of tokens that are so, where a symbol builds what B says: as `Derives_by` without the
+module _ (K V S : Type 0) (Sort : S → Type 0) (production : (s : S) → Part K V S Sort (Sort s)) (G : (Token K V) → Type 0) where
+  -- The part builds the value of tokens that are so, where a nonterminal builds what B says: as `Derives_by` without the
   -- tokens, each of which is kept at its mark alone.
   abbrev pub Built_by : ((s : S) → ℕ → ℕ → Counting (Sort s)) → {A : Type 0} → Part K V S Sort A → ℕ → ℕ → ℕ → ℕ → A → Type 0
-  Built_by B (g.mark f) d l c c' x = (t : Token K V) × G t × (f t.sight ≡ true) × (x ≡ t.face) × (c' ≡ c)
-  Built_by B (g.sym s) d l c c' x = B s d l c c' x
+  Built_by B (g.terminal f) d l c c' x = (t : Token K V) × G t × (f t.sight ≡ true) × (x ≡ t.face) × (c' ≡ c)
+  Built_by B (g.nonterminal s) d l c c' x = B s d l c c' x
   Built_by B (g.both a b) d l c c' x = (e : ℕ) × Built_by B a d l c e x.0 × Built_by B b d l e c' x.1
   Built_by B (g.either a b) d l c c' x = Built_by B a d l c c' x ⊎ Built_by B b d l c c' x
   Built_by B (g.maybe a) d l c c' None = c' ≡ c
@@ -69,12 +69,12 @@ module _ (K V S : Type 0) (Sort : S → Type 0) (rule : (s : S) → Part K V S S
         (i, k c i v x av p, is, m i e w y aw q)
 
     abbrev Dv : ((s : S) → ℕ → ℕ → Counted (Token K V) (Sort s)) → {A : Type 0} → Part K V S Sort A → ℕ → ℕ → Counted (Token K V) A
-    Dv D a d l c e u x = Derives_by K V S Sort rule D a d l c e u x
+    Dv D a d l c e u x = Derives_by K V S Sort production D a d l c e u x
 
     pub built_by : (D : (s : S) → ℕ → ℕ → Counted (Token K V) (Sort s)) (B : (s : S) → ℕ → ℕ → Counting (Sort s)) → ((s : S) (d l : ℕ) → Kept (D s d l) (B s d l))
         → {A : Type 0} (a : Part K V S Sort A) (d l : ℕ) → Kept (Dv D a d l) (Built_by B a d l)
-    built_by D B k (g.mark f) d l c e u x all (t, eu, is, ex, ec) = (t, one t (subst Ok eu all), is, ex, ec)
-    built_by D B k (g.sym s) d l c e u x all p = k s d l c e u x all p
+    built_by D B k (g.terminal f) d l c e u x all (t, eu, is, ex, ec) = (t, one t (subst Ok eu all), is, ex, ec)
+    built_by D B k (g.nonterminal s) d l c e u x all p = k s d l c e u x all p
     built_by D B k (g.both a b) d l c e u x all (v, w, m, eu, p, q) =
         let (av, aw) = halves v w (subst Ok eu all) in
         (m, built_by D B k a d l c m v x.0 av p, built_by D B k b d l m e w x.1 aw q)

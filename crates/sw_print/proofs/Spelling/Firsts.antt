@@ -4,7 +4,7 @@ use Rattle.sw_lex.specs.Bytes.{Text}
 use Rattle.sw_lex.specs.declared.token.TokenKind.{TokenKind}
 use Rattle.sw_lex.specs.declared.token.TokenKind.TheVariants as k
 use Rattle.sw_lex.specs.declared.token.Token.{Token}
-use Rattle.sw_grammar.specs.Grammar.{Heads}
+use Rattle.sw_grammar.specs.Grammar.{FirstPasses}
 use Rattle.sw_layout.specs.declared.gap.Gap.{Gap}
 use Rattle.sw_layout.specs.declared.gap.Gap.TheVariants as gap
 use Rattle.sw_layout.specs.Words.{Word, token_of, is_first as first_gap}
@@ -26,7 +26,7 @@ use Rattle.sw_tree.specs.declared.stmt.Stmt.TheFolds.{ind-Stmt, fold-roll-Stmt, 
 use Rattle.sw_syntax.specs.declared.class.Class.{Class}
 use Rattle.sw_syntax.specs.declared.class.Class.TheVariants as class
 use Rattle.sw_syntax.specs.Tokens.{class_in, touches_next, Sighted, seen}
-use Rattle.sw_syntax.specs.Symbols.{Ending, Open, Closed}
+use Rattle.sw_syntax.specs.Nonterminals.{Ending, Open, Closed}
 use Rattle.sw_syntax.specs.Grammar.{begins_below}
 use Rattle.sw_syntax.specs.Tests.{is, is_first, goes_on_line, is_minus_class, is_loose_minus_class}
 use Rattle.sw_print.specs.Seen.{seen_in}
@@ -45,7 +45,7 @@ abbrev NextJoined : List Word → Type 0
 NextJoined [] = ⊥
 NextJoined (word ∷ words) = word.gap ≡ gap.Joined
 
--- There is a first word: a `.`, or one with this gap; and what stands behind a first `-` touches it.
+-- There is a first word: a `.`, or one with this gap; and what follows a first `-` touches it.
 abbrev pub Begun : Gap → List Word → Type 0
 Begun g [] = ⊥
 Begun g (word ∷ words) = ((word.kind ≡ k.Dot) × (word.gap ≡ around g)) ⊎ ((word.gap ≡ g) × ((is_minus word.kind ≡ false) ⊎ NextJoined words))
@@ -209,8 +209,8 @@ pub dot_append : (g : Gap) (v w : List Word) → Begun g v → begins_with_dot (
 dot_append g [] w h = elim h [ ]
 dot_append g (x ∷ v) w h = refl
 
-no_dot : (w : Word) (words : List Word) (behind : List Token) → begins_with_dot (w ∷ words) ≡ false → is k.Dot (seen (token_of w) behind).sight ≡ false
-no_dot w words behind h = decided (is k.Dot (seen (token_of w) behind).sight) (λ e. clash _ (dot_begins w words (class_kind w.kind (token_of w) behind k.Dot e)) h)
+no_dot : (w : Word) (words : List Word) (following : List Token) → begins_with_dot (w ∷ words) ≡ false → is k.Dot (seen (token_of w) following).sight ≡ false
+no_dot w words following h = decided (is k.Dot (seen (token_of w) following).sight) (λ e. clash _ (dot_begins w words (class_kind w.kind (token_of w) following k.Dot e)) h)
 
 loose_minus : (x : Class) → is_loose_minus_class x ≡ true → is_minus_class x ≡ true
 loose_minus class.LooseMinus h = refl
@@ -220,21 +220,21 @@ not_loose : (b : Bool) → b ≡ true → is_loose_minus_class (if b then class.
 not_loose true h e = absurd (cc)
 not_loose false h e = absurd (cc)
 
-joined_touches : (words : List Word) (behind : List Token) → NextJoined words → touches_next (map token_of words ++ behind) ≡ true
-joined_touches [] behind h = elim h [ ]
-joined_touches (w ∷ words) behind h = ap (λ g. (token_of (record { kind = w.kind; text = w.text; gap = g })).touches) h
+joined_touches : (words : List Word) (following : List Token) → NextJoined words → touches_next (map token_of words ++ following) ≡ true
+joined_touches [] following h = elim h [ ]
+joined_touches (w ∷ words) following h = ap (λ g. (token_of (record { kind = w.kind; text = w.text; gap = g })).touches) h
 
-minus_joined : (w : Word) (words : List Word) (behind : List Token) → (is_minus w.kind ≡ false) ⊎ NextJoined words → w.kind ≡ k.Minus
-    → is_loose_minus_class (class_in w.kind (token_of w) (map token_of words ++ behind)) ≡ true → ⊥
-minus_joined w words behind (inl h) e = λ p. clash _ (ap is_minus e) h
-minus_joined w words behind (inr h) e =
-    subst (λ kind. is_loose_minus_class (class_in kind (token_of w) (map token_of words ++ behind)) ≡ true → ⊥) (sym e) (not_loose (touches_next (map token_of words ++ behind)) (joined_touches words behind h))
+minus_joined : (w : Word) (words : List Word) (following : List Token) → (is_minus w.kind ≡ false) ⊎ NextJoined words → w.kind ≡ k.Minus
+    → is_loose_minus_class (class_in w.kind (token_of w) (map token_of words ++ following)) ≡ true → ⊥
+minus_joined w words following (inl h) e = λ p. clash _ (ap is_minus e) h
+minus_joined w words following (inr h) e =
+    subst (λ kind. is_loose_minus_class (class_in kind (token_of w) (map token_of words ++ following)) ≡ true → ⊥) (sym e) (not_loose (touches_next (map token_of words ++ following)) (joined_touches words following h))
 
-no_loose : (w : Word) (words : List Word) (behind : List Token) → IsGoodWord w → (is_minus w.kind ≡ false) ⊎ NextJoined words
-    → is_loose_minus_class (seen (token_of w) (map token_of words ++ behind)).sight.class ≡ false
-no_loose w words behind good h =
-    let t : Sighted = seen (token_of w) (map token_of words ++ behind) in
-    decided (is_loose_minus_class t.sight.class) (λ e. minus_joined w words behind h (minus_kind t (token_of w, map token_of words ++ behind, refl, good) (loose_minus t.sight.class e)) e)
+no_loose : (w : Word) (words : List Word) (following : List Token) → IsGoodWord w → (is_minus w.kind ≡ false) ⊎ NextJoined words
+    → is_loose_minus_class (seen (token_of w) (map token_of words ++ following)).sight.class ≡ false
+no_loose w words following good h =
+    let t : Sighted = seen (token_of w) (map token_of words ++ following) in
+    decided (is_loose_minus_class t.sight.class) (λ e. minus_joined w words following h (minus_kind t (token_of w, map token_of words ++ following, refl, good) (loose_minus t.sight.class e)) e)
 
 all_three : (a b c : Bool) → a ≡ true → b ≡ false → c ≡ false → (a && not (b || c)) ≡ true
 all_three true false false p q r = refl
@@ -242,20 +242,20 @@ all_three true false true p q r = cc
 all_three true true c p q r = cc
 all_three false b c p q r = cc
 
-line_first : (w : Word) (behind : List Token) → w.gap ≡ gap.Line → is_first (seen (token_of w) behind).sight ≡ true
-line_first w behind h = ap first_gap h
+line_first : (w : Word) (following : List Token) → w.gap ≡ gap.Line → is_first (seen (token_of w) following).sight ≡ true
+line_first w following h = ap first_gap h
 
--- words that begin on a line of their own, with no `.`, may begin a statement behind one with any ending
-pub heads_below : (ending : Ending) (words : List Word) (behind : List Token) → Every IsGoodWord words → Begun gap.Line words → begins_with_dot words ≡ false
-    → Heads (begins_below ending) (seen_in words behind)
-heads_below ending [] behind good h dot = elim h [ ]
-heads_below ending (w ∷ words) behind good (inl h) dot = absurd (clash _ (dot_begins w words h.0) dot)
-heads_below Open (w ∷ words) behind good (inr (h, p)) dot =
-    all_three _ _ _ (line_first w (map token_of words ++ behind) h) (no_dot w words (map token_of words ++ behind) dot) (no_loose w words behind good.0 p)
-heads_below Closed (w ∷ words) behind good (inr (h, p)) dot = line_first w (map token_of words ++ behind) h
+-- words that begin on a line of their own, with no `.`, may begin a statement after one with any ending
+pub heads_below : (ending : Ending) (words : List Word) (following : List Token) → Every IsGoodWord words → Begun gap.Line words → begins_with_dot words ≡ false
+    → FirstPasses (begins_below ending) (seen_in words following)
+heads_below ending [] following good h dot = elim h [ ]
+heads_below ending (w ∷ words) following good (inl h) dot = absurd (clash _ (dot_begins w words h.0) dot)
+heads_below Open (w ∷ words) following good (inr (h, p)) dot =
+    all_three _ _ _ (line_first w (map token_of words ++ following) h) (no_dot w words (map token_of words ++ following) dot) (no_loose w words following good.0 p)
+heads_below Closed (w ∷ words) following good (inr (h, p)) dot = line_first w (map token_of words ++ following) h
 
--- words that begin behind a space stand on the line of what precedes
-pub heads_on_line : (words : List Word) (behind : List Token) → Begun gap.Space words → Heads goes_on_line (seen_in words behind)
-heads_on_line [] behind h = tt
-heads_on_line (w ∷ words) behind (inl h) = ap (λ g. not (first_gap g)) h.1
-heads_on_line (w ∷ words) behind (inr h) = ap (λ g. not (first_gap g)) h.0
+-- words that begin after a space stand on the line of what precedes
+pub heads_on_line : (words : List Word) (following : List Token) → Begun gap.Space words → FirstPasses goes_on_line (seen_in words following)
+heads_on_line [] following h = tt
+heads_on_line (w ∷ words) following (inl h) = ap (λ g. not (first_gap g)) h.1
+heads_on_line (w ∷ words) following (inr h) = ap (λ g. not (first_gap g)) h.0

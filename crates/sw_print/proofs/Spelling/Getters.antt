@@ -5,7 +5,7 @@ use Rattle.sw_lex.specs.Tables.{is_same_text}
 use Rattle.sw_lex.specs.declared.token.TokenKind.{TokenKind}
 use Rattle.sw_lex.specs.declared.token.TokenKind.TheVariants as k
 use Rattle.sw_lex.specs.declared.token.Token.{Token}
-use Rattle.sw_grammar.specs.Grammar.{Heads}
+use Rattle.sw_grammar.specs.Grammar.{FirstPasses}
 use Rattle.sw_layout.specs.declared.gap.Gap.{Gap}
 use Rattle.sw_layout.specs.declared.gap.Gap.TheVariants as gap
 use Rattle.sw_layout.specs.Words.{Word, plain, token_of}
@@ -52,7 +52,7 @@ abbrev Keyed : List Word → Type 0
 Keyed [] = ⊥
 Keyed (word ∷ words) = (same_kind word.kind k.LeftBrace ≡ false) × (same_kind word.kind k.Name ≡ false)
 
--- there are words, the first is no `{`, and behind a name there is none
+-- there are words, the first is no `{`, and after a name there is none
 abbrev NoGetter : List Word → Type 0
 NoGetter [] = ⊥
 NoGetter (word ∷ words) = (same_kind word.kind k.LeftBrace ≡ false) × (word.kind ≡ k.Name → NoBrace words)
@@ -283,32 +283,32 @@ followed_start : (xs : List Stmt) → NoBrace (followed (map stmt_words xs))
 followed_start [] = tt
 followed_start (x ∷ xs) = no_brace_append (separated (stmt_words x)) (followed (map stmt_words xs)) (separated_start x) (followed_start xs)
 
-not_getter : (kind : TokenKind) (token : Token) (behind : List Token) → (kind ≡ k.Name → is_next k.LeftBrace behind ≡ false) → not (is_get_block_class (class_in kind token behind)) ≡ true
-not_getter k.Name token behind h =
+not_getter : (kind : TokenKind) (token : Token) (following : List Token) → (kind ≡ k.Name → is_next k.LeftBrace following ≡ false) → not (is_get_block_class (class_in kind token following)) ≡ true
+not_getter k.Name token following h =
     let P : Class → Type 0 = λ c. not (is_get_block_class c) ≡ true in
     choose P (is_same_text token.text (codes "actor")) _ _ (λ e. refl) (λ e. choose P (is_same_text token.text (codes "distributed")) _ _ (λ e. refl) (λ e. choose P (is_same_text token.text (codes "nonisolated")) _ _ (λ e. refl)
     (λ e. choose P (is_same_text token.text (codes "mutating")) _ _ (λ e. refl) (λ e. choose P (is_same_text token.text (codes "final")) _ _ (λ e. refl) (λ e. choose P (is_same_text token.text (codes "get")) _ _
-    (λ e. choose P (is_next k.LeftBrace behind) class.GetBlock class.Get (λ is. clash (is_next k.LeftBrace behind) is (h refl)) (λ e. refl)) (λ e. refl))))))
+    (λ e. choose P (is_next k.LeftBrace following) class.GetBlock class.Get (λ is. clash (is_next k.LeftBrace following) is (h refl)) (λ e. refl)) (λ e. refl))))))
   where
     clash : (b : Bool) → b ≡ true → b ≡ false → false ≡ true
     clash b p q = absurd (cc)
-not_getter k.Else token behind h = choose (λ c. not (is_get_block_class c) ≡ true) (is_next k.If behind) class.ElseIf (class.Is k.Else) (λ e. refl) (λ e. refl)
-not_getter k.Bang token behind h = choose (λ c. not (is_get_block_class c) ≡ true) token.touches class.TouchingBang (class.Is k.Bang) (λ e. refl) (λ e. refl)
-not_getter k.Question token behind h = choose (λ c. not (is_get_block_class c) ≡ true) token.touches class.TouchingQuestion _ (λ e. refl)
+not_getter k.Else token following h = choose (λ c. not (is_get_block_class c) ≡ true) (is_next k.If following) class.ElseIf (class.Is k.Else) (λ e. refl) (λ e. refl)
+not_getter k.Bang token following h = choose (λ c. not (is_get_block_class c) ≡ true) token.touches class.TouchingBang (class.Is k.Bang) (λ e. refl) (λ e. refl)
+not_getter k.Question token following h = choose (λ c. not (is_get_block_class c) ≡ true) token.touches class.TouchingQuestion _ (λ e. refl)
     (λ e. choose (λ c. not (is_get_block_class c) ≡ true) token.after_space class.SpacedQuestion (class.Is k.Question) (λ e. refl) (λ e. refl))
-not_getter k.Minus token behind h = choose (λ c. not (is_get_block_class c) ≡ true) (touches_next behind) (class.Is k.Minus) class.LooseMinus (λ e. refl) (λ e. refl)
-not_getter kind token behind h = refl
+not_getter k.Minus token following h = choose (λ c. not (is_get_block_class c) ≡ true) (touches_next following) (class.Is k.Minus) class.LooseMinus (λ e. refl) (λ e. refl)
+not_getter kind token following h = refl
 
-no_brace_next : (v : List Word) (behind : List Token) → NoBrace v → is_next k.LeftBrace behind ≡ false → is_next k.LeftBrace (map token_of v ++ behind) ≡ false
-no_brace_next [] behind p q = q
-no_brace_next (x ∷ v) behind p q = p
+no_brace_next : (v : List Word) (following : List Token) → NoBrace v → is_next k.LeftBrace following ≡ false → is_next k.LeftBrace (map token_of v ++ following) ≡ false
+no_brace_next [] following p q = q
+no_brace_next (x ∷ v) following p q = p
 
-heads_no_getter : (words : List Word) (behind : List Token) → NoGetter words → is_next k.LeftBrace behind ≡ false → Heads is_no_getter (seen_in words behind)
-heads_no_getter [] behind p q = tt
-heads_no_getter (word ∷ words) behind p q = not_getter word.kind (token_of word) (map token_of words ++ behind) (λ e. no_brace_next words behind (p.1 e) q)
+heads_no_getter : (words : List Word) (following : List Token) → NoGetter words → is_next k.LeftBrace following ≡ false → FirstPasses is_no_getter (seen_in words following)
+heads_no_getter [] following p q = tt
+heads_no_getter (word ∷ words) following p q = not_getter word.kind (token_of word) (map token_of words ++ following) (λ e. no_brace_next words following (p.1 e) q)
 
 -- statements before anything but `{` do not begin with `get` before its block
-pub no_getter : (xs : List Stmt) (behind : List Token) → is_next k.LeftBrace behind ≡ false → Heads is_no_getter (seen_in (lines (map stmt_words xs)) behind)
-no_getter [] behind h = tt
-no_getter (x ∷ xs) behind h =
-    heads_no_getter (lines (map stmt_words (x ∷ xs))) behind (getter_append (stmt_words x gap.Line) (followed (map stmt_words xs)) (stmt_begins x gap.Line) (followed_start xs)) h
+pub no_getter : (xs : List Stmt) (following : List Token) → is_next k.LeftBrace following ≡ false → FirstPasses is_no_getter (seen_in (lines (map stmt_words xs)) following)
+no_getter [] following h = tt
+no_getter (x ∷ xs) following h =
+    heads_no_getter (lines (map stmt_words (x ∷ xs))) following (getter_append (stmt_words x gap.Line) (followed (map stmt_words xs)) (stmt_begins x gap.Line) (followed_start xs)) h

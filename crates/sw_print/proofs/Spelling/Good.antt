@@ -1,32 +1,32 @@
 -- Texts that are of their kind: of the tokens of a source, and of the words that are written.
 use Rattle.std.proofs.Common.{◌≡◌, ◌≤◌, Bool, true, false, not, ◌&&◌, ◌⊎◌, inl, inr, if◌then◌else◌, List, [], ◌∷◌, ◌++◌, refl, sym, ap, ◌∙◌, subst}
 use Rattle.std.specs.Cmp.Lexicographic.{same_text}
+use Rattle.sw_base.specs.Limits.{greatest_integer}
 use Rattle.sw_lex.specs.declared.token.TokenKind.{TokenKind}
 use Rattle.sw_lex.specs.declared.token.TokenKind.TheVariants as k
 use Rattle.sw_lex.specs.declared.token.Token.{Token}
 use Rattle.sw_lex.specs.Bytes.{Text}
-use Rattle.sw_lex.specs.Rules.{number, greatest}
-use Rattle.sw_lex.specs.Tables.{Table, words, marks, is_same_text, kind_in, kind_of_word, IsListed}
+use Rattle.sw_lex.specs.Rules.{number}
+use Rattle.sw_lex.specs.Tables.{Table, words, marks, is_same_text, kind_in, kind_of_word, IsListed, same_kind, fixed, is_reserved_kind}
 use Rattle.sw_grammar.proofs.Starts.{and_halves}
-use Rattle.sw_layout.specs.Words.{Word, fixed}
-use Rattle.sw_layout.specs.Rows.{Fits, IsWord}
+use Rattle.sw_layout.specs.Words.{Word}
+use Rattle.sw_layout.specs.Layouts.{Fits, IsWord}
 use Rattle.sw_syntax.specs.Tokens.{Sighted, seen, sighted}
-use Rattle.sw_syntax.specs.Tests.{is_reserved_kind}
 use Rattle.sw_print.proofs.Spelling.Built.{Every}
 
 -- the text is of the kind, and an integer is one that a literal holds
 abbrev pub IsOfKind : TokenKind → Text → Type 0
-IsOfKind kind text = Fits kind text × (kind ≡ k.Integer → number 0 text ≤ greatest)
+IsOfKind kind text = Fits kind text × (kind ≡ k.Integer → number 0 text ≤ greatest_integer)
 
 -- what is seen of a token whose text is of its kind
 abbrev pub IsGood : Sighted → Type 0
-IsGood t = (token : Token) × (behind : List Token) × (t ≡ seen token behind) × IsOfKind token.kind token.text
+IsGood t = (token : Token) × (following : List Token) × (t ≡ seen token following) × IsOfKind token.kind token.text
 
 abbrev pub IsGoodWord : Word → Type 0
 IsGoodWord w = IsOfKind w.kind w.text
 
 pub good_face : (t : Sighted) → IsGood t → IsOfKind t.face.kind t.face.text
-good_face t (token, behind, e, is) = subst (λ t. IsOfKind t.face.kind t.face.text) (sym e) is
+good_face t (token, following, e, is) = subst (λ t. IsOfKind t.face.kind t.face.text) (sym e) is
 
 -- ---- kinds that are spelt in one way
 
@@ -103,7 +103,7 @@ none_wordy [] = true
 none_wordy (entry ∷ table) = not (is_wordy entry.1) && none_wordy table
 
 marks_not_wordy : none_wordy marks ≡ true
-unfolding marks
+unfolding marks same_kind is_reserved_kind
 marks_not_wordy = refl
 
 mark_not_wordy : (table : Table) (text : Text) (kind : TokenKind) → none_wordy table ≡ true → IsListed table text kind → is_wordy kind ≡ true → ⊥
@@ -116,6 +116,7 @@ mark_not_wordy (entry ∷ table) text kind h (inl p) w = clash (is_wordy kind) w
 mark_not_wordy (entry ∷ table) text kind h (inr p) w = mark_not_wordy table text kind (and_halves _ _ h).1 p w
 
 wordy_fits : (kind : TokenKind) (text : Text) → is_wordy kind ≡ true → Fits kind text → IsWord kind text ⊎ IsListed marks text kind
+unfolding same_kind is_reserved_kind
 wordy_fits k.Integer text h p = absurd (cc)
 wordy_fits k.StringWhole text h p = absurd (cc)
 wordy_fits k.StringStart text h p = absurd (cc)

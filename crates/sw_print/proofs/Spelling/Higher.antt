@@ -4,20 +4,20 @@ use Rattle.sw_grammar.specs.Grammar as g
 use Rattle.sw_grammar.specs.Grammar.{Token, Part, Counted, Each, Then, Derives_by, Derives}
 use Rattle.sw_grammar.proofs.Grow.{grow_part}
 
-module _ (K V S : Type 0) (Sort : S → Type 0) (rule : (s : S) → Part K V S Sort (Sort s)) where
+module _ (K V S : Type 0) (Sort : S → Type 0) (production : (s : S) → Part K V S Sort (Sort s)) where
   -- by a derivation of some height
   abbrev pub Derived : (s : S) → ℕ → ℕ → ℕ → ℕ → List (Token K V) → Sort s → Type 0
-  Derived s d l c e u x = (n : ℕ) × Derives K V S Sort rule n s d l c e u x
+  Derived s d l c e u x = (n : ℕ) × Derives K V S Sort production n s d l c e u x
 
   abbrev By : ℕ → {A : Type 0} → Part K V S Sort A → ℕ → ℕ → Counted (Token K V) A
-  By n a d l c e u x = Derives_by K V S Sort rule (Derives K V S Sort rule n) a d l c e u x
+  By n a d l c e u x = Derives_by K V S Sort production (Derives K V S Sort production n) a d l c e u x
 
   abbrev BySome : {A : Type 0} → Part K V S Sort A → ℕ → ℕ → Counted (Token K V) A
-  BySome a d l c e u x = Derives_by K V S Sort rule Derived a d l c e u x
+  BySome a d l c e u x = Derives_by K V S Sort production Derived a d l c e u x
 
   up_part : (n m : ℕ) → n ≤ m → {A : Type 0} (a : Part K V S Sort A) (d l c e : ℕ) (u : List (Token K V)) (x : A) → By n a d l c e u x → By m a d l c e u x
   up_part n m le a d l c e u x p =
-      let (e', same, q) = grow_part K V S Sort rule n m le a d l c e u x p d l c (omega arith) (omega arith) (omega arith) in
+      let (e', same, q) = grow_part K V S Sort production n m le a d l c e u x p d l c (omega arith) (omega arith) (omega arith) in
       let here : e' ≡ e = omega (arith, same) in
       subst (λ e. By m a d l c e u x) here q
 
@@ -50,8 +50,8 @@ module _ (K V S : Type 0) (Sort : S → Type 0) (rule : (s : S) → Part K V S S
   rises a d l n m le c e u x p = up_part n m le a d l c e u x p
 
   gathered : {A : Type 0} (a : Part K V S Sort A) (d l : ℕ) → One (BySome a d l) (λ n. By n a d l)
-  gathered (g.mark f) d l c e u x p = (zero, p)
-  gathered (g.sym s) d l c e u x p = p
+  gathered (g.terminal f) d l c e u x p = (zero, p)
+  gathered (g.nonterminal s) d l c e u x p = p
   gathered (g.both a b) d l c e u x (v, w, i, eu, p, q) =
       let (n, p') = gathered a d l c i v x.0 p in
       let (m, q') = gathered b d l i e w x.1 q in
@@ -70,6 +70,6 @@ module _ (K V S : Type 0) (Sort : S → Type 0) (rule : (s : S) → Part K V S S
   gathered (g.limited a) d l c e u x (i, p, h) = let (n, q) = gathered a d l l i u x p in (n, (i, q, h))
   gathered (g.gives f a) d l c e u y (x, p, h) = let (n, q) = gathered a d l c e u x p in (n, (x, q, h))
 
-  -- a text of a symbol's production is one of the symbol
-  pub derived : (s : S) (d l c e : ℕ) (u : List (Token K V)) (x : Sort s) → BySome (rule s) d l c e u x → Derived s d l c e u x
-  derived s d l c e u x p = let (n, q) = gathered (rule s) d l c e u x p in (suc n, q)
+  -- a sentence of a nonterminal's production is one of the nonterminal
+  pub derived : (s : S) (d l c e : ℕ) (u : List (Token K V)) (x : Sort s) → BySome (production s) d l c e u x → Derived s d l c e u x
+  derived s d l c e u x p = let (n, q) = gathered (production s) d l c e u x p in (suc n, q)

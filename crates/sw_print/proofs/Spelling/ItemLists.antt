@@ -1,7 +1,7 @@
 -- What is written for lists of items, each on a line of its own, spells them again.
 use Rattle.std.proofs.Common.{◌≡◌, ℕ, false, inl, inr, List, [], ◌∷◌, ◌++◌, Some, None, refl, sym, ap, ◌∙◌, subst}
 use Rattle.sw_lex.specs.declared.token.Token.{Token}
-use Rattle.sw_grammar.specs.Grammar.{Heads, sym as symbol}
+use Rattle.sw_grammar.specs.Grammar.{FirstPasses, nonterminal}
 use Rattle.sw_layout.specs.declared.gap.Gap.{Gap}
 use Rattle.sw_layout.specs.declared.gap.Gap.TheVariants as gap
 use Rattle.sw_layout.specs.Words.{Word, is_first as begins_line}
@@ -20,10 +20,10 @@ use Rattle.sw_tree.specs.declared.decl.EnumItem.TheVariants as item
 use Rattle.sw_tree.specs.declared.decl.Requirement.{Requirement}
 use Rattle.sw_tree.specs.declared.decl.Requirement.TheVariants as r
 use Rattle.sw_syntax.specs.Tokens.{Sighted}
-use Rattle.sw_syntax.specs.Symbols.{Listed, Decls, Members, Items, Requirements, Symbol, Sort, Some', Rest, Item, ItemTree}
+use Rattle.sw_syntax.specs.Nonterminals.{ItemKind, Decls, Members, EnumItems, Requirements, Nonterminal, Sort, ItemList, AfterItem, Item, ItemTree}
 use Rattle.sw_syntax.specs.Parts.{P}
 use Rattle.sw_syntax.specs.Tests.{is_first}
-use Rattle.sw_syntax.specs.Grammar.{rule, list_of}
+use Rattle.sw_syntax.specs.Grammar.{production, list_of}
 use Rattle.sw_print.specs.Seen.{seen_in}
 use Rattle.sw_print.specs.Expressions.{W}
 use Rattle.sw_print.specs.Statements.{binding_word, block_words}
@@ -91,20 +91,20 @@ first_decl (d.Protocol heading requirements) g = first_modified heading.modifier
 first_decl (d.Actor heading members) g = first_modified heading.modifiers _ g refl
 first_decl (d.Func x) g = first_append g (signature_words x.signature g) (block_words x.body) (first_signature x.signature g)
 
-first_listed : (l : Listed) (x : ItemTree l) (g : Gap) → First g (listed_words l x g)
+first_listed : (l : ItemKind) (x : ItemTree l) (g : Gap) → First g (listed_words l x g)
 first_listed Decls = first_decl
 first_listed Members = first_member
-first_listed Items = first_item
+first_listed EnumItems = first_item
 first_listed Requirements = first_requirement
 
-heads_first : (words : List Word) (behind : List Token) → First gap.Line words → Heads is_first (seen_in words behind)
-heads_first [] behind h = tt
-heads_first (word ∷ words) behind h = ap begins_line h
+heads_first : (words : List Word) (following : List Token) → First gap.Line words → FirstPasses is_first (seen_in words following)
+heads_first [] following h = tt
+heads_first (word ∷ words) following h = ap begins_line h
 
 -- ---- lists
 
--- the words of items, of which the first stands behind this gap, and each other on a line of its own
-abbrev pub items_words : (l : Listed) → List (ItemTree l) → W
+-- the words of items, of which the first follows this gap, and each other on a line of its own
+abbrev pub items_words : (l : ItemKind) → List (ItemTree l) → W
 items_words l [] g = []
 items_words l (x ∷ xs) g = listed_words l x g ++ lines_of l xs
 
@@ -112,7 +112,7 @@ abbrev pub IsFilled : {A : Type 0} → List A → Type 0
 IsFilled [] = ⊥
 IsFilled (x ∷ xs) = Unit {0}
 
-items_lines : (l : Listed) (xs : List (ItemTree l)) → lines_of l xs ≡ items_words l xs gap.Line
+items_lines : (l : ItemKind) (xs : List (ItemTree l)) → lines_of l xs ≡ items_words l xs gap.Line
 items_lines l [] = refl
 items_lines l (x ∷ xs) = refl
 
@@ -120,59 +120,59 @@ items_decls : (xs : List Decl) → decls_words xs ≡ items_words Decls xs gap.S
 items_decls [] = refl
 items_decls (x ∷ xs) = refl
 
-first_of_items : (l : Listed) (xs : List (ItemTree l)) → IsFilled xs → First gap.Line (items_words l xs gap.Line)
+first_of_items : (l : ItemKind) (xs : List (ItemTree l)) → IsFilled xs → First gap.Line (items_words l xs gap.Line)
 first_of_items l [] h = elim h [ ]
 first_of_items l (x ∷ xs) h = first_append gap.Line (listed_words l x gap.Line) (lines_of l xs) (first_listed l x gap.Line)
 
-module _ (D : (s : Symbol) → ℕ → ℕ → ℕ → ℕ → List Sighted → Sort s → Type 0) (B : (s : Symbol) → ℕ → ℕ → ℕ → ℕ → Sort s → Type 0) where
+module _ (D : (s : Nonterminal) → ℕ → ℕ → ℕ → ℕ → List Sighted → Sort s → Type 0) (B : (s : Nonterminal) → ℕ → ℕ → ℕ → ℕ → Sort s → Type 0) where
   -- what is written for each item of the list spells it
-  abbrev pub ItemAgain : Listed → Type 0
-  ItemAgain l = Written D B Any (symbol (Item l)) (listed_words l)
+  abbrev pub ItemAgain : ItemKind → Type 0
+  ItemAgain l = Written D B Any (nonterminal (Item l)) (listed_words l)
 
   -- what is written for at least one item spells it
-  abbrev pub SomeWritten : (l : Listed) → P (List (ItemTree l)) → Type 0
-  SomeWritten l a = (d l_ c e : ℕ) (xs : List (ItemTree l)) → BuiltOf B a d l_ c e xs → (g : Gap) (behind : List Token) → IsFilled xs × Made D a d l_ c e xs (items_words l xs g) behind
+  abbrev pub SomeWritten : (l : ItemKind) → P (List (ItemTree l)) → Type 0
+  SomeWritten l a = (d l_ c e : ℕ) (xs : List (ItemTree l)) → BuiltOf B a d l_ c e xs → (g : Gap) (following : List Token) → IsFilled xs × Made D a d l_ c e xs (items_words l xs g) following
 
-  abbrev pub SomeAgain : Listed → Type 0
-  SomeAgain l = SomeWritten l (symbol (Some' l))
+  abbrev pub SomeAgain : ItemKind → Type 0
+  SomeAgain l = SomeWritten l (nonterminal (ItemList l))
 
-  -- what is written for the items behind one spells them, each on a line of its own
-  abbrev pub RestAgain : Listed → Type 0
-  RestAgain l = Stands D B Any (symbol (Rest l)) (lines_of l)
+  -- what is written for the items after one spells them, each on a line of its own
+  abbrev pub RestAgain : ItemKind → Type 0
+  RestAgain l = Stands D B Any (nonterminal (AfterItem l)) (lines_of l)
 
-  module _ (l : Listed) where
+  module _ (l : ItemKind) where
     -- (item sep)*, with at least one item
-    pub some_again : ItemAgain l → RestAgain l → SomeWritten l (rule false (Some' l))
-    some_again item rest d_ l_ c e ys (x, (m_, p, q), h) g behind = (
+    pub some_again : ItemAgain l → RestAgain l → SomeWritten l (production false (ItemList l))
+    some_again item rest d_ l_ c e ys (x, (m_, p, q), h) g following = (
       subst IsFilled (sym h) tt,
-      make_gives D h (reword D (ap (λ ys. items_words l ys g) h) (make_both D (item d_ l_ c m_ x.0 p g _ tt) (rest d_ l_ m_ e x.1 q behind tt))),
+      make_gives D h (reword D (ap (λ ys. items_words l ys g) h) (make_both D (item d_ l_ c m_ x.0 p g _ tt) (rest d_ l_ m_ e x.1 q following tt))),
     )
 
     module _ (again : SomeAgain l) where
       -- (item sep)*
       pub items_made : Written D B Any (list_of l) (items_words l)
-      items_made d_ l_ c e ys (None, p, h) g behind ok = make_gives D h (reword D (ap (λ ys. items_words l ys g) h) (make_none D p))
-      items_made d_ l_ c e ys (Some xs, p, h) g behind ok = make_gives D h (reword D (ap (λ ys. items_words l ys g) h) (make_some D (again d_ l_ c e xs p g behind).1))
+      items_made d_ l_ c e ys (None, p, h) g following ok = make_gives D h (reword D (ap (λ ys. items_words l ys g) h) (make_none D p))
+      items_made d_ l_ c e ys (Some xs, p, h) g following ok = make_gives D h (reword D (ap (λ ys. items_words l ys g) h) (make_some D (again d_ l_ c e xs p g following).1))
 
       -- the same, each on a line of its own
       pub list_again : ListAgain D B l
-      list_again d_ l_ c e ys p behind ok = reword D (items_lines l ys) (items_made d_ l_ c e ys p gap.Line behind ok)
+      list_again d_ l_ c e ys p following ok = reword D (items_lines l ys) (items_made d_ l_ c e ys p gap.Line following ok)
 
-      -- What may stand behind an item. Where the source has a `;`, what is written has a line break.
-      pub rest_again : Stands D B Any (rule false (Rest l)) (lines_of l)
-      rest_again d_ l_ c e ys (None, p, h) behind ok = make_gives D h (reword D (ap (lines_of l) h) (make_none D p))
-      rest_again d_ l_ c e ys (Some xs, inl ((semicolon, zs), (m_, (t, good, passed, ex, ec), (None, q, same)), its), h) behind ok =
+      -- What may follow an item. Where the source has a `;`, what is written has a line break.
+      pub rest_again : Stands D B Any (production false (AfterItem l)) (lines_of l)
+      rest_again d_ l_ c e ys (None, p, h) following ok = make_gives D h (reword D (ap (lines_of l) h) (make_none D p))
+      rest_again d_ l_ c e ys (Some xs, inl ((semicolon, zs), (m_, (t, good, passed, ex, ec), (None, q, same)), its), h) following ok =
           make_gives D (h ∙ its ∙ same) (reword D (ap (lines_of l) (h ∙ its ∙ same)) (make_none D (q ∙ ec)))
-      rest_again d_ l_ c e ys (Some xs, inl ((semicolon, zs), (m_, (t, good, passed, ex, ec), (Some us, q, same)), its), h) behind ok =
-          let (filled, made) = again d_ l_ m_ e us q gap.Line behind in
+      rest_again d_ l_ c e ys (Some xs, inl ((semicolon, zs), (m_, (t, good, passed, ex, ec), (Some us, q, same)), its), h) following ok =
+          let (filled, made) = again d_ l_ m_ e us q gap.Line following in
           make_gives D (h ∙ its ∙ same) (reword D (ap (lines_of l) (h ∙ its ∙ same) ∙ items_lines l us)
-          (make_some D (make_right D (make_when D (heads_first (items_words l us gap.Line) behind (first_of_items l us filled))
-          (subst (λ m. Made D (symbol (Some' l)) d_ l_ m e us (items_words l us gap.Line) behind) ec made)))))
-      rest_again d_ l_ c e ys (Some xs, inr p, h) behind ok =
-          let (filled, made) = again d_ l_ c e xs p gap.Line behind in
+          (make_some D (make_right D (make_when D (heads_first (items_words l us gap.Line) following (first_of_items l us filled))
+          (subst (λ m. Made D (nonterminal (ItemList l)) d_ l_ m e us (items_words l us gap.Line) following) ec made)))))
+      rest_again d_ l_ c e ys (Some xs, inr p, h) following ok =
+          let (filled, made) = again d_ l_ c e xs p gap.Line following in
           make_gives D h (reword D (ap (lines_of l) h ∙ items_lines l xs)
-          (make_some D (make_right D (make_when D (heads_first (items_words l xs gap.Line) behind (first_of_items l xs filled)) made))))
+          (make_some D (make_right D (make_when D (heads_first (items_words l xs gap.Line) following (first_of_items l xs filled)) made))))
 
   -- the declarations of a file
   pub decls_made : SomeAgain Decls → Stands D B Any (list_of Decls) decls_words
-  decls_made again d_ l_ c e xs p behind ok = reword D (items_decls xs) (items_made Decls again d_ l_ c e xs p gap.Start behind ok)
+  decls_made again d_ l_ c e xs p following ok = reword D (items_decls xs) (items_made Decls again d_ l_ c e xs p gap.Start following ok)

@@ -5,7 +5,7 @@ use Rattle.sw_lex.specs.Tables.{kind_of_word}
 use Rattle.sw_lex.specs.declared.token.TokenKind.{TokenKind}
 use Rattle.sw_lex.specs.declared.token.TokenKind.TheVariants as k
 use Rattle.sw_lex.specs.declared.token.Token.{Token}
-use Rattle.sw_grammar.specs.Grammar.{Heads, sym as symbol}
+use Rattle.sw_grammar.specs.Grammar.{FirstPasses, nonterminal}
 use Rattle.sw_grammar.proofs.Starts.{Starts, or_either, and_halves}
 use Rattle.sw_layout.specs.declared.gap.Gap.{Gap}
 use Rattle.sw_layout.specs.declared.gap.Gap.TheVariants as gap
@@ -15,10 +15,10 @@ use Rattle.sw_tree.specs.declared.types.«Type».{«Type» as TypeTree, map-Type
 use Rattle.sw_tree.specs.declared.types.«Type».TheOpen.{Type-F}
 use Rattle.sw_tree.specs.declared.types.«Type».TheFolds.{ind-Type, fold-roll-Type}
 use Rattle.sw_syntax.specs.Tokens.{same_kind, is_next, Sighted, Face, seen}
-use Rattle.sw_syntax.specs.Symbols.{Symbol, Sort, Case, Payload, Type'}
+use Rattle.sw_syntax.specs.Nonterminals.{Nonterminal, Sort, Case, Payload, TypeExpr}
 use Rattle.sw_syntax.specs.Parts.{any, in_parens}
 use Rattle.sw_syntax.specs.Values.{name_of}
-use Rattle.sw_syntax.specs.Grammar.{rule}
+use Rattle.sw_syntax.specs.Grammar.{production}
 use Rattle.sw_syntax.specs.Tests.{is_name, is_reserved, is_payload_label, is_bare_type, starts_type}
 use Rattle.sw_print.specs.Seen.{seen_in}
 use Rattle.sw_print.specs.Expressions.{W, word, label_word, in_parens as parens_words, type_words, type_level, mark_gap}
@@ -70,66 +70,66 @@ label_wordy t good passed = elim (or_either (is_name t.sight && t.sight.before_c
 ]
 
 -- the word of a label, before `:`, is one
-label_passes : (kind : TokenKind) (text : Text) (g : Gap) (behind : List Token) (face : Face) → is_wordy kind ≡ true → is_next k.Colon behind ≡ true
-    → is_payload_label (placed face (seen (token_of (word kind text g)) behind)).sight ≡ true
-label_passes kind text g behind face h next =
-    let t : Sighted = placed face (seen (token_of (word kind text g)) behind) in
+label_passes : (kind : TokenKind) (text : Text) (g : Gap) (following : List Token) (face : Face) → is_wordy kind ≡ true → is_next k.Colon following ≡ true
+    → is_payload_label (placed face (seen (token_of (word kind text g)) following)).sight ≡ true
+label_passes kind text g following face h next =
+    let t : Sighted = placed face (seen (token_of (word kind text g)) following) in
     elim (either_word kind h) [
       | inl e ↦ by_name (is_name t.sight) (is_reserved t.sight) t.sight.before_colon (starts_type t.sight) next
-          (ap (λ kind. is_name (placed face (seen (token_of (word kind text g)) behind)).sight) e ∙ name_class text behind)
-      | inr p ↦ by_reserved (is_name t.sight) (is_reserved t.sight) t.sight.before_colon (starts_type t.sight) next (reserved_class kind (token_of (word kind text g)) behind p)
+          (ap (λ kind. is_name (placed face (seen (token_of (word kind text g)) following)).sight) e ∙ name_class text following)
+      | inr p ↦ by_reserved (is_name t.sight) (is_reserved t.sight) t.sight.before_colon (starts_type t.sight) next (reserved_class kind (token_of (word kind text g)) following p)
     ]
 
 -- what is seen of a type before anything but `:` does not begin with a label
-heads_bare : (words : List Word) (behind : List Token) (run : List Sighted) → Headed words → is_next k.Colon behind ≡ false → map unplaced run ≡ map unplaced (seen_in words behind)
-    → Starts false starts_type run → Heads is_bare_type run
-heads_bare [] behind run headed none alike starts = elim headed [ ]
-heads_bare (w ∷ words) behind [] headed none alike starts = tt
-heads_bare (w ∷ words) behind (t ∷ run) headed none alike starts =
-    let same : unplaced t ≡ unplaced (seen (token_of w) (map token_of words ++ behind)) = first_same _ _ _ _ alike in
-    unlabelled_by (is_name t.sight) (is_reserved t.sight) t.sight.before_colon (starts_type t.sight) (ap (λ t. t.sight.before_colon) same ∙ no_colon_next words behind headed.1 none) starts
+heads_bare : (words : List Word) (following : List Token) (run : List Sighted) → Headed words → is_next k.Colon following ≡ false → map unplaced run ≡ map unplaced (seen_in words following)
+    → Starts false starts_type run → FirstPasses is_bare_type run
+heads_bare [] following run headed none alike starts = elim headed [ ]
+heads_bare (w ∷ words) following [] headed none alike starts = tt
+heads_bare (w ∷ words) following (t ∷ run) headed none alike starts =
+    let same : unplaced t ≡ unplaced (seen (token_of w) (map token_of words ++ following)) = first_same _ _ _ _ alike in
+    unlabelled_by (is_name t.sight) (is_reserved t.sight) t.sight.before_colon (starts_type t.sight) (ap (λ t. t.sight.before_colon) same ∙ no_colon_next words following headed.1 none) starts
   where
     first_same : {A : Type 0} (a b : A) (u v : List A) → (a ∷ u) ≡ (b ∷ v) → a ≡ b
     first_same a b u v h = cc
 
 -- the next token is not `:`
 abbrev pub Uncoloned : List Token → Type 0
-Uncoloned behind = is_next k.Colon behind ≡ false
+Uncoloned following = is_next k.Colon following ≡ false
 
-module _ (D : (s : Symbol) → ℕ → ℕ → ℕ → ℕ → List Sighted → Sort s → Type 0) (B : (s : Symbol) → ℕ → ℕ → ℕ → ℕ → Sort s → Type 0) where
-  -- what is written for each payload spells it, where no `:` stands behind
+module _ (D : (s : Nonterminal) → ℕ → ℕ → ℕ → ℕ → List Sighted → Sort s → Type 0) (B : (s : Nonterminal) → ℕ → ℕ → ℕ → ℕ → Sort s → Type 0) where
+  -- what is written for each payload spells it, where no `:` follows
   abbrev pub PayloadAgain : Type 0
-  PayloadAgain = Written D B Uncoloned (symbol Payload) payload_words
+  PayloadAgain = Written D B Uncoloned (nonterminal Payload) payload_words
 
   -- (name :)? type
-  pub payload_again : TypeAgain D B (symbol Type') → ((d l c e : ℕ) (u : List Sighted) (x : TypeTree) → D Type' d l c e u x → Starts false starts_type u) → Written D B Uncoloned (rule false Payload) payload_words
+  pub payload_again : TypeAgain D B (nonterminal TypeExpr) → ((d l c e : ℕ) (u : List Sighted) (x : TypeTree) → D TypeExpr d l c e u x → Starts false starts_type u) → Written D B Uncoloned (production false Payload) payload_words
   unfolding same_kind
-  payload_again types starts d l c e y (inl ((t, x), (m, (s, good, passed, ex, ec), q), h)) g behind none =
+  payload_again types starts d l c e y (inl ((t, x), (m, (s, good, passed, ex, ec), q), h)) g following none =
       let wordy : is_wordy t.kind ≡ true = ap (λ t. is_wordy t.kind) ex ∙ label_wordy s good passed in
       let its : IsOfKind t.kind t.text = subst (λ t. IsOfKind t.kind t.text) (sym ex) (good_face s good) in
       let kinds : kind_of_word t.text ≡ t.kind = wordy_kind t.kind t.text wordy its.0 in
       make_left D (make_gives D h (reword D (ap (λ y. payload_words y g) h)
       (make_both D
       (make_mark D (label_word (name_of t) g) t (sym kinds) refl (subst (λ kind. IsOfKind kind t.text) (sym kinds) its)
-      (label_passes (kind_of_word t.text) t.text g (map token_of (annotation_words x) ++ behind) t (ap is_wordy kinds ∙ wordy) refl) ec)
-      (annotation_made D B types d l m e x q behind tt))))
-  payload_again types starts d l c e y (inr (x, (m, p, same), h)) g behind none =
-      let inside = types d l l m x p g behind in
+      (label_passes (kind_of_word t.text) t.text g (map token_of (annotation_words x) ++ following) t (ap is_wordy kinds ∙ wordy) refl) ec)
+      (annotation_made D B types d l m e x q following tt))))
+  payload_again types starts d l c e y (inr (x, (m, p, same), h)) g following none =
+      let inside = types d l l m x p g following in
       make_right D (make_gives D h (reword D (ap (λ y. payload_words y g) h) (record {
         good = inside.good;
         run = inside.run;
         alike = inside.alike;
-        derives = (heads_bare (type_words x g) behind inside.run (type_headed x g) none inside.alike (starts d l l m inside.run x inside.derives), (m, inside.derives, same));
+        derives = (heads_bare (type_words x g) following inside.run (type_headed x g) none inside.alike (starts d l l m inside.run x inside.derives), (m, inside.derives, same));
       })))
 
   -- what is written for each case spells it
   abbrev pub CaseAgain : Type 0
-  CaseAgain = Written D B Any (symbol Case) case_words
+  CaseAgain = Written D B Any (nonterminal Case) case_words
 
   -- name (( (name :)? type ,* ))?
-  pub case_again : PayloadAgain → Written D B Any (rule false Case) case_words
+  pub case_again : PayloadAgain → Written D B Any (production false Case) case_words
   unfolding same_kind
-  case_again payloads d l c e y (x, (m, p, q), h) g behind ok =
+  case_again payloads d l c e y (x, (m, p, q), h) g following ok =
       make_gives D h (reword D (ap (λ y. case_words y g) h) (make_both D (make_name D B g _ d l c m x.0 p)
-      (perhaps_made D B (in_parens (any (symbol Payload))) (λ xs. parens_words (map payload_words xs)) Any
-      (listed_made D B (symbol Payload) payload_words Uncoloned (λ rest. refl) (λ rest. refl) payloads) d l m e x.1 q behind tt)))
+      (perhaps_made D B (in_parens (any (nonterminal Payload))) (λ xs. parens_words (map payload_words xs)) Any
+      (listed_made D B (nonterminal Payload) payload_words Uncoloned (λ rest. refl) (λ rest. refl) payloads) d l m e x.1 q following tt)))

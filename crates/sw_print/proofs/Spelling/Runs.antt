@@ -40,8 +40,8 @@ one t (all, h) = all.0
 
 -- ---- the tokens of a source
 
-touches : (kind : TokenKind) (token : Token) (behind : List Token) → kind ≡ k.Question → is_touching_question_class (class_in kind token behind) ≡ true → token.touches ≡ true
-touches kind token behind e h = go token.touches token.after_space refl (subst (λ (kind : TokenKind). is_touching_question_class (class_in kind token behind) ≡ true) e h)
+touches : (kind : TokenKind) (token : Token) (following : List Token) → kind ≡ k.Question → is_touching_question_class (class_in kind token following) ≡ true → token.touches ≡ true
+touches kind token following e h = go token.touches token.after_space refl (subst (λ (kind : TokenKind). is_touching_question_class (class_in kind token following) ≡ true) e h)
   where
     go : (t s : Bool) → token.touches ≡ t → is_touching_question_class (if t then class.TouchingQuestion else (if s then class.SpacedQuestion else class.Is k.Question)) ≡ true → token.touches ≡ true
     go true s e h = e

@@ -18,7 +18,7 @@ use Rattle.sw_tree.specs.declared.stmt.SwitchArm.{SwitchArm, fold-SwitchArm, fol
 use Rattle.sw_tree.specs.declared.stmt.Stmt.{Stmt, fold-roll-Stmt}
 use Rattle.sw_tree.specs.declared.stmt.Stmt.TheOpen.{Stmt-F, Branch-F, Catch-F, SwitchArm-F}
 use Rattle.sw_tree.specs.declared.stmt.Stmt.TheVariants as s
-use Rattle.sw_syntax.specs.Symbols.{Branches}
+use Rattle.sw_syntax.specs.Nonterminals.{Branches}
 use Rattle.sw_print.specs.Expressions.{W, name_word, perhaps, expr_words}
 use Rattle.sw_print.specs.Statements.{binding_word, assign_mark, annotation_words, initial_words, conditions_words, loop_word, range_words, catch_pattern_words, lines, each_line, in_braces, label_words, else_ifs, else_words, catches_words, stmt_level, branch_level, catch_level, arm_level, stmt_words, block_words}
 use Rattle.sw_print.proofs.Spelling.TypeWords.{at}

@@ -2,12 +2,12 @@
 use Rattle.std.proofs.Common.{◌≡◌, ℕ, false, List, [], ◌∷◌, ◌++◌, map, sym, subst}
 use Rattle.sw_lex.specs.declared.token.TokenKind.TheVariants as k
 use Rattle.sw_lex.specs.declared.token.Token.{Token}
-use Rattle.sw_grammar.specs.Grammar.{sym as symbol}
+use Rattle.sw_grammar.specs.Grammar.{nonterminal}
 use Rattle.sw_layout.specs.declared.gap.Gap.{Gap}
 use Rattle.sw_layout.specs.Words.{Word, token_of}
 use Rattle.sw_tree.specs.declared.expr.Expr.{Expr as ExprTree}
 use Rattle.sw_syntax.specs.Tokens.{same_kind, is_next, Sighted}
-use Rattle.sw_syntax.specs.Symbols.{Symbol, Sort, Expr}
+use Rattle.sw_syntax.specs.Nonterminals.{Nonterminal, Sort, Expr}
 use Rattle.sw_syntax.specs.Parts.{P, whole_expr}
 use Rattle.sw_print.specs.Expressions.{expr_words}
 use Rattle.sw_print.proofs.Spelling.Making.{Made, make_limited, reword}
@@ -39,25 +39,25 @@ pub headed_append : (v w : List Word) → Headed v → NoColon w → Headed (v +
 headed_append [] w p q = elim p [ ]
 headed_append (x ∷ v) w p q = (p.0, no_colon_append v w p.1 q)
 
-pub no_colon_next : (v : List Word) (behind : List Token) → NoColon v → is_next k.Colon behind ≡ false → is_next k.Colon (map token_of v ++ behind) ≡ false
-no_colon_next [] behind p q = q
-no_colon_next (x ∷ v) behind p q = p
+pub no_colon_next : (v : List Word) (following : List Token) → NoColon v → is_next k.Colon following ≡ false → is_next k.Colon (map token_of v ++ following) ≡ false
+no_colon_next [] following p q = q
+no_colon_next (x ∷ v) following p q = p
 
-module _ (D : (s : Symbol) → ℕ → ℕ → ℕ → ℕ → List Sighted → Sort s → Type 0) (B : (s : Symbol) → ℕ → ℕ → ℕ → ℕ → Sort s → Type 0) where
+module _ (D : (s : Nonterminal) → ℕ → ℕ → ℕ → ℕ → List Sighted → Sort s → Type 0) (B : (s : Nonterminal) → ℕ → ℕ → ℕ → ℕ → Sort s → Type 0) where
   -- words that are made for the value, and begin as none with a label do
-  pub record Spelt {A : Type 0} (a : P A) (d l c e : ℕ) (x : A) (words : List Word) (behind : List Token) : Type 0 where
+  pub record Spelt {A : Type 0} (a : P A) (d l c e : ℕ) (x : A) (words : List Word) (following : List Token) : Type 0 where
     pub headed : Headed words
-    pub made : Made D a d l c e x words behind
+    pub made : Made D a d l c e x words following
 
   -- the same in other words
-  pub spelt : {A : Type 0} {a : P A} {d l c e : ℕ} {x : A} {v w : List Word} {behind : List Token} → w ≡ v → Headed v → Made D a d l c e x v behind → Spelt a d l c e x w behind
+  pub spelt : {A : Type 0} {a : P A} {d l c e : ℕ} {x : A} {v w : List Word} {following : List Token} → w ≡ v → Headed v → Made D a d l c e x v following → Spelt a d l c e x w following
   spelt h p q = record { headed = subst Headed (sym h) p; made = reword D h q }
 
   -- what is written for each expression that the part builds spells it
   abbrev pub PartAgain : P ExprTree → Type 0
-  PartAgain a = (d l c e : ℕ) (x : ExprTree) → BuiltOf B a d l c e x → (g : Gap) (behind : List Token) → Spelt a d l c e x (expr_words x g) behind
+  PartAgain a = (d l c e : ℕ) (x : ExprTree) → BuiltOf B a d l c e x → (g : Gap) (following : List Token) → Spelt a d l c e x (expr_words x g) following
 
   -- an expression that stands in no other
-  pub whole_expr_again : PartAgain (symbol Expr) → PartAgain whole_expr
-  whole_expr_again within d l c e x (m, p, ec) g behind =
-      let inside = within d l l m x p g behind in record { headed = inside.headed; made = make_limited D ec inside.made }
+  pub whole_expr_again : PartAgain (nonterminal Expr) → PartAgain whole_expr
+  whole_expr_again within d l c e x (m, p, ec) g following =
+      let inside = within d l l m x p g following in record { headed = inside.headed; made = make_limited D ec inside.made }

@@ -3,7 +3,7 @@ use Rattle.std.proofs.Common.{◌≡◌, ℕ, zero, suc, false, ◌⊎◌, inl, 
 use Rattle.sw_base.specs.declared.ids.Span.{Span}
 use Rattle.sw_lex.specs.declared.token.TokenKind.TheVariants as k
 use Rattle.sw_lex.specs.declared.token.Token.{Token}
-use Rattle.sw_grammar.specs.Grammar.{mark, sym as symbol, many, counts}
+use Rattle.sw_grammar.specs.Grammar.{terminal, nonterminal, many, counts}
 use Rattle.sw_layout.specs.declared.gap.Gap.{Gap}
 use Rattle.sw_layout.specs.declared.gap.Gap.TheVariants as gap
 use Rattle.sw_layout.specs.Words.{plain}
@@ -12,9 +12,9 @@ use Rattle.sw_tree.specs.declared.types.«Type».{«Type» as TypeTree, fold-rol
 use Rattle.sw_tree.specs.declared.types.«Type».TheOpen.{Type-F}
 use Rattle.sw_tree.specs.declared.types.«Type».TheVariants as t
 use Rattle.sw_syntax.specs.Tokens.{same_kind, Sighted, Face}
-use Rattle.sw_syntax.specs.Symbols.{Symbol, Sort, Type', Base}
+use Rattle.sw_syntax.specs.Nonterminals.{Nonterminal, Sort, TypeExpr, BaseType}
 use Rattle.sw_syntax.specs.Parts.{P, whole_type}
-use Rattle.sw_syntax.specs.Grammar.{rule}
+use Rattle.sw_syntax.specs.Grammar.{production}
 use Rattle.sw_syntax.specs.Tests.{is_joined_question}
 use Rattle.sw_syntax.specs.Values.{optional_of}
 use Rattle.sw_print.specs.Expressions.{W, name_word, dot_name, type_words, ends_in_question}
@@ -49,54 +49,54 @@ words_optional x g h = at (ap type_words (sym (t.rolls-Optional x)) ∙ fold-rol
 
 -- ---- the productions
 
-module _ (D : (s : Symbol) → ℕ → ℕ → ℕ → ℕ → List Sighted → Sort s → Type 0) (B : (s : Symbol) → ℕ → ℕ → ℕ → ℕ → Sort s → Type 0) where
+module _ (D : (s : Nonterminal) → ℕ → ℕ → ℕ → ℕ → List Sighted → Sort s → Type 0) (B : (s : Nonterminal) → ℕ → ℕ → ℕ → ℕ → Sort s → Type 0) where
   -- what is written for each type that the part builds spells it
   abbrev pub TypeAgain : P TypeTree → Type 0
-  TypeAgain a = (d l c e : ℕ) (x : TypeTree) → BuiltOf B a d l c e x → (g : Gap) (behind : List Token) → Made D a d l c e x (type_words x g) behind
+  TypeAgain a = (d l c e : ℕ) (x : TypeTree) → BuiltOf B a d l c e x → (g : Gap) (following : List Token) → Made D a d l c e x (type_words x g) following
 
   -- The same for a type without its `?`, and it does not end in one.
   abbrev pub BaseAgain : P TypeTree → Type 0
-  BaseAgain a = (d l c e : ℕ) (x : TypeTree) → BuiltOf B a d l c e x → (g : Gap) (behind : List Token) → (ends_in_question (type_words x g) ≡ false) × Made D a d l c e x (type_words x g) behind
+  BaseAgain a = (d l c e : ℕ) (x : TypeTree) → BuiltOf B a d l c e x → (g : Gap) (following : List Token) → (ends_in_question (type_words x g) ≡ false) × Made D a d l c e x (type_words x g) following
 
   -- type = base ?*, with at most one `?`
-  pub type_rule : BaseAgain (symbol Base) → (d l c m e : ℕ) (y x : TypeTree) (marks : List Face) → BuiltOf B (symbol Base) d l c m x → BuiltOf B (many (counts (mark is_joined_question))) d l m e marks → y ≡ optional_of x marks
-      → (marks ≡ []) ⊎ ((one : Face) × (marks ≡ one ∷ [])) → (g : Gap) (behind : List Token) → Made D (rule false Type') d l c e y (type_words y g) behind
+  pub type_rule : BaseAgain (nonterminal BaseType) → (d l c m e : ℕ) (y x : TypeTree) (marks : List Face) → BuiltOf B (nonterminal BaseType) d l c m x → BuiltOf B (many (counts (terminal is_joined_question))) d l m e marks → y ≡ optional_of x marks
+      → (marks ≡ []) ⊎ ((one : Face) × (marks ≡ one ∷ [])) → (g : Gap) (following : List Token) → Made D (production false TypeExpr) d l c e y (type_words y g) following
   unfolding same_kind
-  type_rule base d l c m e y x [] p q h few g behind =
+  type_rule base d l c m e y x [] p q h few g following =
       make_gives D h (reword D (ap (λ y. type_words y g) h ∙ sym (append-nil (type_words x g))) (make_both D (base d l c m x p g _).1 (make_nil D q)))
-  type_rule base d l c zero e y x (one ∷ []) p (m2, q, r) h few g behind = elim q [ ]
-  type_rule base d l c (suc m) e y x (one ∷ []) p (m2, (s, good, is, ex, ec), r) h few g behind =
+  type_rule base d l c zero e y x (one ∷ []) p (m2, q, r) h few g following = elim q [ ]
+  type_rule base d l c (suc m) e y x (one ∷ []) p (m2, (s, good, is, ex, ec), r) h few g following =
       let its = base d l c (suc m) x p g _ in
       make_gives D h (reword D (ap (λ y. type_words y g) h ∙ words_optional x g its.0) (make_both D its.1
-      (make_cons D (make_counts D (make_plain D B is_joined_question k.Question gap.Joined behind d l m m2 one (was_mark k.Question s one good (touching_question_kind s good is) ex) refl refl ec)) (make_nil D r))))
-  type_rule base d l c m e y x (one ∷ two ∷ marks) p q h (inl none) g behind = absurd (cc (none))
-  type_rule base d l c m e y x (one ∷ two ∷ marks) p q h (inr (only, same)) g behind = absurd (cc (same))
+      (make_cons D (make_counts D (make_plain D B is_joined_question k.Question gap.Joined following d l m m2 one (was_mark k.Question s one good (touching_question_kind s good is) ex) refl refl ec)) (make_nil D r))))
+  type_rule base d l c m e y x (one ∷ two ∷ marks) p q h (inl none) g following = absurd (cc (none))
+  type_rule base d l c m e y x (one ∷ two ∷ marks) p q h (inr (only, same)) g following = absurd (cc (same))
 
   -- base = name | name . name | [ type ] | any name | ( )
-  pub base_rule : TypeAgain (symbol Type') → TypeAgain (rule false Base)
+  pub base_rule : TypeAgain (nonterminal TypeExpr) → TypeAgain (production false BaseType)
   unfolding same_kind
-  base_rule within d l c e y (inl ((name, None), (m, p, q), h)) g behind =
+  base_rule within d l c e y (inl ((name, None), (m, p, q), h)) g following =
       make_left D (make_gives D h (reword D (ap (λ y. type_words y g) h ∙ words_name name g) (make_both D (make_name D B g _ d l c m name p) (make_none D q))))
-  base_rule within d l c e y (inl ((outer, Some name), (m, p, ((dot, inner), (m2, q, r), same)), h)) g behind =
+  base_rule within d l c e y (inl ((outer, Some name), (m, p, ((dot, inner), (m2, q, r), same)), h)) g following =
       make_left D (make_gives D h (reword D (ap (λ y. type_words y g) h ∙ words_member outer name g)
       (make_both D (make_name D B g _ d l c m outer p) (make_some D (make_gives D same
-      (make_both D (make_tok D B k.Dot gap.Joined _ d l m m2 dot q refl refl) (reword D (ap (λ n. name_word n gap.Joined ∷ []) same) (make_name D B gap.Joined behind d l m2 e inner r))))))))
-  base_rule within zero l c e y (inr (inl (x, p, h))) g behind = elim p [ ]
-  base_rule within (suc d) l zero e y (inr (inl (x, (m, p, q), h))) g behind = elim p [ ]
-  base_rule within (suc d) l (suc c) e y (inr (inl ((at, (x, close)), (m, p, (m2, q, r)), h))) g behind =
+      (make_both D (make_tok D B k.Dot gap.Joined _ d l m m2 dot q refl refl) (reword D (ap (λ n. name_word n gap.Joined ∷ []) same) (make_name D B gap.Joined following d l m2 e inner r))))))))
+  base_rule within zero l c e y (inr (inl (x, p, h))) g following = elim p [ ]
+  base_rule within (suc d) l zero e y (inr (inl (x, (m, p, q), h))) g following = elim p [ ]
+  base_rule within (suc d) l (suc c) e y (inr (inl ((at, (x, close)), (m, p, (m2, q, r)), h))) g following =
       make_right D (make_left D (make_gives D h (reword D (ap (λ y. type_words y g) h ∙ words_array at x g) (make_nest D
       (make_both D (make_counts D (make_place D B k.LeftBracket g _ d l c m at p refl (λ x. refl)))
-      (make_both D (within d l m m2 x q gap.Space _) (make_tok D B k.RightBracket gap.Space behind d l m2 e close r refl refl)))))))
-  base_rule within d l c e y (inr (inr (inl ((at, name), (m, p, q), h)))) g behind =
+      (make_both D (within d l m m2 x q gap.Space _) (make_tok D B k.RightBracket gap.Space following d l m2 e close r refl refl)))))))
+  base_rule within d l c e y (inr (inr (inl ((at, name), (m, p, q), h)))) g following =
       make_right D (make_right D (make_left D (make_gives D h (reword D (ap (λ y. type_words y g) h ∙ words_any at name g)
-      (make_both D (make_place D B k.Any g _ d l c m at p refl (λ x. refl)) (make_name D B gap.Space behind d l m e name q))))))
-  base_rule within zero l c e y (inr (inr (inr (x, p, h)))) g behind = elim p [ ]
-  base_rule within (suc d) l c e y (inr (inr (inr ((at, close), (m, p, q), h)))) g behind =
+      (make_both D (make_place D B k.Any g _ d l c m at p refl (λ x. refl)) (make_name D B gap.Space following d l m e name q))))))
+  base_rule within zero l c e y (inr (inr (inr (x, p, h)))) g following = elim p [ ]
+  base_rule within (suc d) l c e y (inr (inr (inr ((at, close), (m, p, q), h)))) g following =
       make_right D (make_right D (make_right D (make_gives D h (reword D (ap (λ y. type_words y g) h ∙ words_void at g) (make_nest D
-      (make_both D (make_place D B k.LeftParen g _ d l c m at p refl (λ x. refl)) (make_tok D B k.RightParen gap.Space behind d l m e close q refl refl)))))))
+      (make_both D (make_place D B k.LeftParen g _ d l c m at p refl (λ x. refl)) (make_tok D B k.RightParen gap.Space following d l m e close q refl refl)))))))
 
   -- and it ends in no `?`
-  pub base_ends : (d l c e : ℕ) (y : TypeTree) → BuiltOf B (rule false Base) d l c e y → (g : Gap) → ends_in_question (type_words y g) ≡ false
+  pub base_ends : (d l c e : ℕ) (y : TypeTree) → BuiltOf B (production false BaseType) d l c e y → (g : Gap) → ends_in_question (type_words y g) ≡ false
   base_ends d l c e y (inl ((name, None), p, h)) g = ap (λ y. ends_in_question (type_words y g)) h ∙ ap ends_in_question (words_name name g)
   base_ends d l c e y (inl ((outer, Some name), p, h)) g = ap (λ y. ends_in_question (type_words y g)) h ∙ ap ends_in_question (words_member outer name g)
   base_ends zero l c e y (inr (inl (x, p, h))) g = elim p [ ]
@@ -107,5 +107,5 @@ module _ (D : (s : Symbol) → ℕ → ℕ → ℕ → ℕ → List Sighted → 
   base_ends (suc d) l c e y (inr (inr (inr ((at, close), p, h)))) g = ap (λ y. ends_in_question (type_words y g)) h ∙ ap ends_in_question (words_void at g)
 
   -- a type that stands in no other
-  pub whole_type_again : TypeAgain (symbol Type') → TypeAgain whole_type
-  whole_type_again within d l c e x (m, p, ec) g behind = make_limited D ec (within d l l m x p g behind)
+  pub whole_type_again : TypeAgain (nonterminal TypeExpr) → TypeAgain whole_type
+  whole_type_again within d l c e x (m, p, ec) g following = make_limited D ec (within d l l m x p g following)

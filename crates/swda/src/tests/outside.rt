@@ -7,7 +7,7 @@ use rows::{BODIES, SOURCES};
 use std::alloc::Global;
 use std::test::Fail;
 use sw_base::Text;
-use test_rows::tried;
+use test_rows::check_rows;
 
 /// The rule that a source breaks first, and its place, as the rows write them; `none` where it is beyond what is built.
 fn source_answer(alloc: Global, source: &[u8]) -> Result<Text, Fail> {
@@ -47,7 +47,7 @@ fn body_answer(alloc: Global, body: &[u8]) -> Result<Text, Fail> {
 
 #[test]
 fn each_body_is_answered(rt: HostRuntime) -> Result<(), Fail> {
-    let (right, wrong) = tried(rt.alloc(), BODIES, body_answer)?;
+    let (right, wrong) = check_rows(rt.alloc(), BODIES, body_answer)?;
     assert_eq!(rt; wrong, None);
     assert_eq!(rt; right, 255);
     Ok(())
@@ -55,7 +55,7 @@ fn each_body_is_answered(rt: HostRuntime) -> Result<(), Fail> {
 
 #[test]
 fn each_source_is_answered(rt: HostRuntime) -> Result<(), Fail> {
-    let (right, wrong) = tried(rt.alloc(), SOURCES, source_answer)?;
+    let (right, wrong) = check_rows(rt.alloc(), SOURCES, source_answer)?;
     assert_eq!(rt; wrong, None);
     assert_eq!(rt; right, 202);
     Ok(())

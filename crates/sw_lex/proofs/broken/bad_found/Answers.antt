@@ -7,7 +7,7 @@ pub returns-in-None-clause-value : goal.returns-in-None-clause-value
 returns-in-None-clause-value c =
     let source = c.args.source.now in
     let at = ap (λ (spot : Spot). spot.at) c.here.ensures in
-    bad_none source _ c.in-None.ensures.front (omega (arith, at, c.requires.inside))
+    bad_none source _ c.in-None.ensures.prefix (omega (arith, at, c.requires.inside))
 
 pub returns-in-Some-clause-value : goal.returns-in-Some-clause-value
-returns-in-Some-clause-value c = bad_some c.args.source.now c.in-Some.spot.at c.in-Some.ensures.front.0
+returns-in-Some-clause-value c = bad_some c.args.source.now c.in-Some.spot.at c.in-Some.ensures.prefix.0

@@ -1,5 +1,5 @@
 use Rattle.std.proofs.Common.{◌≡◌, ◌-◌, ◌++◌, length, drop}
-use Rattle.sw_lex.specs.Reading.{decoded}
+use Rattle.sw_lex.specs.Matching.{decoded}
 use Rattle.sw_lex.proofs.strings.decoded.Given as goal
 
 abbrev pub invariant-loop-at : goal.invariant-loop-at

@@ -1,5 +1,5 @@
 use Rattle.std.proofs.Common.{◌≡◌, ◌≤◌, ◌+◌, ◌-◌, length, drop}
-use Rattle.sw_lex.specs.Reading as spec
+use Rattle.sw_lex.specs.Matching as spec
 use Rattle.sw_lex.proofs.strings.high_len.Given as goal
 
 -- the bytes so far are not of ASCII

@@ -1,5 +1,5 @@
 use Rattle.std.proofs.Common.{◌≡◌, length, map}
-use Rattle.sw_lex.specs.Reading.{IsTable, first_mark}
+use Rattle.sw_lex.specs.Matching.{IsTable, first_mark}
 use Rattle.sw_lex.proofs.tables.first_mark.Given as goal
 
 -- none of the marks so far begins the text

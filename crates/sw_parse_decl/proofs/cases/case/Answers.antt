@@ -1,17 +1,17 @@
 use Rattle.std.proofs.lemmas.Result.{err_from_is_err_and}
-use Rattle.sw_syntax.proofs.MemberSteps as member
+use Rattle.sw_syntax.proofs.MemberEquations as member
 use Rattle.sw_syntax.proofs.Exits.{after, passes}
 use Rattle.sw_parse_decl.proofs.cases.case.Goals as goal
 
 pub returns-in_err-token-clause-gives : goal.returns-in_err-token-clause-gives
 returns-in_err-token-clause-gives c =
     let p = err_from_is_err_and c.from_residual.result c.from_residual.ensures.1 in
-    rw (p.1, p.2) (passes _ _ _ _ _ (member.case_step _ _ _ _ _) (c.in_err-token.ensures.gives c.args.room.left))
+    rw (p.1, p.2) (passes _ _ _ _ _ (member.case_step _ _ _ _ _) (c.in_err-token.ensures.gives c.args.budget.left))
 
 pub returns-in_err-payload-clause-gives : goal.returns-in_err-payload-clause-gives
 returns-in_err-payload-clause-gives c =
     let p = err_from_is_err_and c.from_residual-in_err-payload.result c.from_residual-in_err-payload.ensures.1 in
-    rw (p.1, p.2) (passes _ _ _ _ _ (after _ _ _ _ _ _ (member.case_step _ _ _ _ _) (c.in_ok-token.ensures.gives c.args.room.left)) (c.in_err-payload.ensures.gives))
+    rw (p.1, p.2) (passes _ _ _ _ _ (after _ _ _ _ _ _ (member.case_step _ _ _ _ _) (c.in_ok-token.ensures.gives c.args.budget.left)) (c.in_err-payload.ensures.gives))
 
 pub returns-clause-gives : goal.returns-clause-gives
-returns-clause-gives c = rw (c.in_ok-name.ensures) (after _ _ _ _ _ _ (after _ _ _ _ _ _ (member.case_step _ _ _ _ _) (c.in_ok-token.ensures.gives c.args.room.left)) (c.in_ok-payload.ensures.gives))
+returns-clause-gives c = rw (c.in_ok-name.ensures) (after _ _ _ _ _ _ (after _ _ _ _ _ _ (member.case_step _ _ _ _ _) (c.in_ok-token.ensures.gives c.args.budget.left)) (c.in_ok-payload.ensures.gives))

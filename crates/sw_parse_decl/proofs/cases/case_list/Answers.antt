@@ -3,7 +3,7 @@ use Rattle.std.proofs.lemmas.Result.{err_from_is_err_and}
 use Rattle.sw_lex.specs.declared.token.TokenKind.TheVariants as k
 use Rattle.sw_syntax.specs.Members.{more_cases}
 use Rattle.sw_syntax.specs.Tests.{is}
-use Rattle.sw_syntax.proofs.MemberSteps as member
+use Rattle.sw_syntax.proofs.MemberEquations as member
 use Rattle.sw_syntax.proofs.Exits.{after, passes}
 use Rattle.sw_parse_decl.proofs.cases.case_list.Goals as goal
 
@@ -14,7 +14,7 @@ returns-in_err-x-clause-gives c =
 
 pub cases-init : goal.cases-init
 cases-init c = record {
-  so_far = after _ _ _ _ _ _ (member.cases_first _ _ _ _ _) (c.in_ok-x.ensures.gives) ∙ ap (λ l. more_cases c.args.lenient c.args.room.brackets c.args.room.limit c.in_ok-x.left l (drop c.in_ok-x.end c.args.source.now)) (sym (c.in_ok-push.ensures.ok ∙ ap (λ l. l ++ c.in_ok-x.x ∷ []) c.new-xs.ensures));
+  so_far = after _ _ _ _ _ _ (member.cases_first _ _ _ _ _) (c.in_ok-x.ensures.gives) ∙ ap (λ l. more_cases c.args.lenient c.args.budget.brackets c.args.budget.limit c.in_ok-x.left l (drop c.in_ok-x.end c.args.view.now)) (sym (c.in_ok-push.ensures.ok ∙ ap (λ l. l ++ c.in_ok-x.x ∷ []) c.new-xs.ensures));
   moves = omega (arith, c.in_ok-x.ensures.moves);
   inside = c.in_ok-x.ensures.inside;
 }
@@ -26,7 +26,7 @@ returns-in_err-y-clause-gives c =
 
 pub cases-preserved : goal.cases-preserved
 cases-preserved c = record {
-  so_far = after _ _ _ _ _ _ (c.cases.invariant.so_far ∙ member.cases_more _ _ _ _ _ _ _ _ (sym c.is.ensures.value ∙ c.cases-test.true) (c.take-next.ensures.taken (is k.Comma) (sym c.is.ensures.value ∙ c.cases-test.true))) (c.in_ok-y.ensures.gives) ∙ ap (λ l. more_cases c.args.lenient c.args.room.brackets c.args.room.limit c.in_ok-y.y_left l (drop c.in_ok-y.y_end c.args.source.now)) (sym c.in_ok-push-2.ensures.ok);
+  so_far = after _ _ _ _ _ _ (c.cases.invariant.so_far ∙ member.cases_more _ _ _ _ _ _ _ _ (sym c.is.ensures.value ∙ c.cases-test.true) (c.take-next.ensures.taken (is k.Comma) (sym c.is.ensures.value ∙ c.cases-test.true))) (c.in_ok-y.ensures.gives) ∙ ap (λ l. more_cases c.args.lenient c.args.budget.brackets c.args.budget.limit c.in_ok-y.y_left l (drop c.in_ok-y.y_end c.args.view.now)) (sym c.in_ok-push-2.ensures.ok);
   moves = omega (arith, c.in_ok-y.ensures.moves);
   inside = c.in_ok-y.ensures.inside;
 }

@@ -2,7 +2,7 @@ use Rattle.std.proofs.Common.{sym, ◌∙◌}
 use Rattle.std.proofs.lemmas.Result.{err_from_is_err_and}
 use Rattle.sw_lex.specs.declared.token.TokenKind.TheVariants as k
 use Rattle.sw_syntax.specs.Tests.{is}
-use Rattle.sw_syntax.proofs.MemberSteps as member
+use Rattle.sw_syntax.proofs.MemberEquations as member
 use Rattle.sw_syntax.proofs.Exits.{after, passes}
 use Rattle.sw_parse_decl.proofs.cases.enum_item.Goals as goal
 

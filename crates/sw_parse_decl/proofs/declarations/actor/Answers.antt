@@ -1,6 +1,6 @@
 use Rattle.std.proofs.lemmas.Result.{err_from_is_err_and}
 use Rattle.sw_syntax.specs.Tests.{is_actor}
-use Rattle.sw_syntax.proofs.DeclSteps as decl
+use Rattle.sw_syntax.proofs.DeclEquations as decl
 use Rattle.sw_syntax.proofs.Exits.{after, passes}
 use Rattle.sw_parse_decl.proofs.declarations.actor.Goals as goal
 

@@ -1,7 +1,7 @@
 use Rattle.std.proofs.lemmas.Result.{err_from_is_err_and}
 use Rattle.sw_lex.specs.declared.token.TokenKind.TheVariants as k
 use Rattle.sw_syntax.specs.Tests.{is}
-use Rattle.sw_syntax.proofs.DeclSteps as decl
+use Rattle.sw_syntax.proofs.DeclEquations as decl
 use Rattle.sw_syntax.proofs.Exits.{after, passes}
 use Rattle.sw_parse_decl.proofs.declarations.struct_.Goals as goal
 

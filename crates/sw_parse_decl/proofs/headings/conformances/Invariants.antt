@@ -4,10 +4,10 @@ use Rattle.sw_parse_decl.proofs.headings.conformances.Given as goal
 
 abbrev pub invariant-names : goal.invariant-names
 invariant-names l = record {
-  so_far : conformances l.lenient l.fn.room.brackets l.fn.room.limit l.fn.room.left (drop l.at l.source) ≡ more_names l.lenient l.fn.room.brackets l.fn.room.limit l.fn.room.left l.xs (drop l.end l.source);
+  so_far : conformances l.lenient l.fn.budget.brackets l.fn.budget.limit l.fn.budget.left (drop l.at l.view) ≡ more_names l.lenient l.fn.budget.brackets l.fn.budget.limit l.fn.budget.left l.xs (drop l.end l.view);
   moves : l.at ≤ l.end;
-  inside : l.end ≤ length l.source;
+  inside : l.end ≤ length l.view;
 }
 
 abbrev pub decreases-names : goal.decreases-names
-decreases-names l = length l.source - l.end
+decreases-names l = length l.view - l.end

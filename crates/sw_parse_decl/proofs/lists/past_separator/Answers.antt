@@ -1,7 +1,7 @@
 use Rattle.std.proofs.Common.{sym, ◌∙◌}
 use Rattle.sw_lex.specs.declared.token.TokenKind.TheVariants as k
 use Rattle.sw_syntax.specs.Tests.{is}
-use Rattle.sw_syntax.proofs.BodySteps as body
+use Rattle.sw_syntax.proofs.BodyEquations as body
 use Rattle.sw_parse_decl.proofs.lists.past_separator.Goals as goal
 
 pub returns-then-is-clause-goes : goal.returns-then-is-clause-goes

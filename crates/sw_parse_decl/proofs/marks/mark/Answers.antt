@@ -1,6 +1,6 @@
 use Rattle.std.proofs.Common.{sym, ◌∙◌}
 use Rattle.sw_syntax.specs.Tests.{is}
-use Rattle.sw_syntax.proofs.DeclSteps as decl
+use Rattle.sw_syntax.proofs.DeclEquations as decl
 use Rattle.sw_parse_decl.proofs.marks.mark.Goals as goal
 
 pub returns-then-not-is-clause-gives : goal.returns-then-not-is-clause-gives

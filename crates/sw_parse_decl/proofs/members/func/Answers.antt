@@ -1,5 +1,5 @@
 use Rattle.std.proofs.lemmas.Result.{err_from_is_err_and}
-use Rattle.sw_syntax.proofs.MemberSteps as member
+use Rattle.sw_syntax.proofs.MemberEquations as member
 use Rattle.sw_syntax.proofs.Exits.{after, passes}
 use Rattle.sw_parse_decl.proofs.members.func.Goals as goal
 

@@ -1,6 +1,6 @@
 use Rattle.std.proofs.Common.{sym, ◌∙◌}
 use Rattle.std.proofs.lemmas.Result.{err_from_is_err_and}
-use Rattle.sw_syntax.proofs.MemberSteps as member
+use Rattle.sw_syntax.proofs.MemberEquations as member
 use Rattle.sw_syntax.proofs.Exits.{after, passes, gives_by}
 use Rattle.sw_parse_decl.proofs.members.member.Goals as goal
 

@@ -4,10 +4,10 @@ use Rattle.sw_parse_decl.proofs.modifiers.modifiers.Given as goal
 
 abbrev pub invariant-modifiers : goal.invariant-modifiers
 invariant-modifiers l = record {
-  so_far : mods_from l.lenient l.fn.room.brackets l.fn.room.limit l.fn.room.left [] (drop l.at l.source) ≡ mods_from l.lenient l.fn.room.brackets l.fn.room.limit l.fn.room.left l.xs (drop l.end l.source);
+  so_far : mods_from l.lenient l.fn.budget.brackets l.fn.budget.limit l.fn.budget.left [] (drop l.at l.view) ≡ mods_from l.lenient l.fn.budget.brackets l.fn.budget.limit l.fn.budget.left l.xs (drop l.end l.view);
   moves : l.at ≤ l.end;
-  inside : l.end ≤ length l.source;
+  inside : l.end ≤ length l.view;
 }
 
 abbrev pub decreases-modifiers : goal.decreases-modifiers
-decreases-modifiers l = length l.source - l.end
+decreases-modifiers l = length l.view - l.end

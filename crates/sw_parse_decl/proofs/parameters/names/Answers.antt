@@ -1,6 +1,6 @@
 use Rattle.std.proofs.Common.{sym, ◌∙◌}
 use Rattle.sw_syntax.specs.Tests.{is_name}
-use Rattle.sw_syntax.proofs.MemberSteps as member
+use Rattle.sw_syntax.proofs.MemberEquations as member
 use Rattle.sw_parse_decl.proofs.parameters.names.Goals as goal
 
 pub returns-then-not-is-2-clause-gives : goal.returns-then-not-is-2-clause-gives

@@ -1,7 +1,7 @@
 use Rattle.std.proofs.Common.{sym, ◌∙◌}
 use Rattle.sw_lex.specs.declared.token.TokenKind.TheVariants as k
 use Rattle.sw_syntax.specs.Tests.{is, is_bool}
-use Rattle.sw_syntax.proofs.PatternSteps as pat
+use Rattle.sw_syntax.proofs.PatternEquations as pat
 use Rattle.sw_parse_expr.proofs.SwitchExits.{told_literal}
 use Rattle.sw_parse_expr.proofs.pattern_literals.literal.Goals as goal
 

@@ -4,10 +4,10 @@ use Rattle.sw_parse_expr.proofs.pattern_literals.string.Given as goal
 
 abbrev pub invariant-pieces : goal.invariant-pieces
 invariant-pieces l = record {
-  so_far : literal_part l.lenient l.fn.room.brackets l.fn.room.limit l.fn.room.left (drop l.fn.at l.source) ≡ pieces_rest l.lenient (l.fn.room.brackets - 1) l.fn.room.limit l.fn.room.left l.start.span l.start.text.now l.pieces l.x (drop l.end l.source);
+  so_far : literal_part l.lenient l.fn.budget.brackets l.fn.budget.limit l.fn.budget.left (drop l.fn.at l.view) ≡ pieces_rest l.lenient (l.fn.budget.brackets - 1) l.fn.budget.limit l.fn.budget.left l.start.span l.start.text.now l.pieces l.x (drop l.end l.view);
   moves : l.fn.at < l.end;
-  inside : l.end ≤ length l.source;
+  inside : l.end ≤ length l.view;
 }
 
 abbrev pub decreases-pieces : goal.decreases-pieces
-decreases-pieces l = length l.source - l.end
+decreases-pieces l = length l.view - l.end

@@ -4,22 +4,22 @@ use Rattle.sw_lex.specs.declared.token.TokenKind.TheVariants as k
 use Rattle.sw_grammar.specs.Reading.{got}
 use Rattle.sw_tree.specs.declared.stmt.Bind.TheVariants as bind
 use Rattle.sw_syntax.specs.Tests.{is}
-use Rattle.sw_syntax.proofs.PatternSteps as pat
+use Rattle.sw_syntax.proofs.PatternEquations as pat
 use Rattle.sw_syntax.proofs.Exits.{after, passes}
 use Rattle.sw_parse_expr.proofs.patterns.bind.Goals as goal
 
 pub returns-in_err-token-clause-gives : goal.returns-in_err-token-clause-gives
 returns-in_err-token-clause-gives c =
     let p = err_from_is_err_and c.from_residual.result c.from_residual.ensures.1 in
-    rw (p.1, p.2) (passes _ _ _ _ _ (pat.bind_let _ _ _ _ _ _ _ (sym c.is.ensures.value ∙ c.if-is.true) (c.take-next.ensures.taken (is k.Let) (sym c.is.ensures.value ∙ c.if-is.true))) (c.in_err-token.ensures.gives c.args.room.left))
+    rw (p.1, p.2) (passes _ _ _ _ _ (pat.bind_let _ _ _ _ _ _ _ (sym c.is.ensures.value ∙ c.if-is.true) (c.take-next.ensures.taken (is k.Let) (sym c.is.ensures.value ∙ c.if-is.true))) (c.in_err-token.ensures.gives c.args.budget.left))
 
 pub returns-then-is-clause-gives : goal.returns-then-is-clause-gives
-returns-then-is-clause-gives c = after _ _ _ _ _ _ (pat.bind_let _ _ _ _ _ _ _ (sym c.is.ensures.value ∙ c.if-is.true) (c.take-next.ensures.taken (is k.Let) (sym c.is.ensures.value ∙ c.if-is.true))) (c.in_ok-token.ensures.gives c.args.room.left) ∙ ap (λ n. got (bind.Let n) c.args.room.left (drop c.in_ok-token.end c.args.source.now)) (sym c.in_ok-name.ensures)
+returns-then-is-clause-gives c = after _ _ _ _ _ _ (pat.bind_let _ _ _ _ _ _ _ (sym c.is.ensures.value ∙ c.if-is.true) (c.take-next.ensures.taken (is k.Let) (sym c.is.ensures.value ∙ c.if-is.true))) (c.in_ok-token.ensures.gives c.args.budget.left) ∙ ap (λ n. got (bind.Let n) c.args.budget.left (drop c.in_ok-token.end c.args.view.now)) (sym c.in_ok-name.ensures)
 
-pub returns-in_err-behind-clause-gives : goal.returns-in_err-behind-clause-gives
-returns-in_err-behind-clause-gives c =
-    let p = err_from_is_err_and c.from_residual-in_err-behind.result c.from_residual-in_err-behind.ensures.1 in
-    rw (p.1, p.2) (passes _ _ _ _ _ (pat.bind_any _ _ _ _ _ (sym c.is.ensures.value ∙ c.if-is.false)) (c.in_err-behind.ensures.gives c.args.room.left))
+pub returns-in_err-after-clause-gives : goal.returns-in_err-after-clause-gives
+returns-in_err-after-clause-gives c =
+    let p = err_from_is_err_and c.from_residual-in_err-after.result c.from_residual-in_err-after.ensures.1 in
+    rw (p.1, p.2) (passes _ _ _ _ _ (pat.bind_any _ _ _ _ _ (sym c.is.ensures.value ∙ c.if-is.false)) (c.in_err-after.ensures.gives c.args.budget.left))
 
 pub returns-clause-gives : goal.returns-clause-gives
-returns-clause-gives c = after _ _ _ _ _ _ (pat.bind_any _ _ _ _ _ (sym c.is.ensures.value ∙ c.if-is.false)) (c.in_ok-behind.ensures.gives c.args.room.left)
+returns-clause-gives c = after _ _ _ _ _ _ (pat.bind_any _ _ _ _ _ (sym c.is.ensures.value ∙ c.if-is.false)) (c.in_ok-after.ensures.gives c.args.budget.left)

@@ -4,12 +4,12 @@ use Rattle.sw_lex.specs.declared.token.TokenKind.TheVariants as k
 use Rattle.sw_grammar.specs.Reading.{got}
 use Rattle.sw_syntax.specs.Patterns.{more_binds}
 use Rattle.sw_syntax.specs.Tests.{is}
-use Rattle.sw_syntax.proofs.PatternSteps as pat
+use Rattle.sw_syntax.proofs.PatternEquations as pat
 use Rattle.sw_syntax.proofs.Exits.{after, passes}
 use Rattle.sw_parse_expr.proofs.patterns.bind_list.Goals as goal
 
 pub returns-then-not-starts_bind-clause-gives : goal.returns-then-not-starts_bind-clause-gives
-returns-then-not-starts_bind-clause-gives c = pat.bind_list_none _ _ _ _ _ (sym c.starts_bind.ensures ∙ c.if-not-starts_bind.true) ∙ ap (λ l. got l c.args.room.left (drop c.args.at c.args.source.now)) (sym c.new-xs.ensures)
+returns-then-not-starts_bind-clause-gives c = pat.bind_list_none _ _ _ _ _ (sym c.starts_bind.ensures ∙ c.if-not-starts_bind.true) ∙ ap (λ l. got l c.args.budget.left (drop c.args.at c.args.view.now)) (sym c.new-xs.ensures)
 
 pub returns-in_err-x-clause-gives : goal.returns-in_err-x-clause-gives
 returns-in_err-x-clause-gives c =
@@ -18,7 +18,7 @@ returns-in_err-x-clause-gives c =
 
 pub binds-init : goal.binds-init
 binds-init c = record {
-  so_far = after _ _ _ _ _ _ (pat.bind_list_first _ _ _ _ _ (sym c.starts_bind.ensures ∙ c.if-not-starts_bind.false)) (c.in_ok-x.ensures.gives) ∙ ap (λ l. more_binds c.args.lenient c.args.room.brackets c.args.room.limit c.in_ok-x.left l (drop c.in_ok-x.end c.args.source.now)) (sym (c.in_ok-push.ensures.ok ∙ ap (λ l. l ++ c.in_ok-x.x ∷ []) c.new-xs.ensures));
+  so_far = after _ _ _ _ _ _ (pat.bind_list_first _ _ _ _ _ (sym c.starts_bind.ensures ∙ c.if-not-starts_bind.false)) (c.in_ok-x.ensures.gives) ∙ ap (λ l. more_binds c.args.lenient c.args.budget.brackets c.args.budget.limit c.in_ok-x.left l (drop c.in_ok-x.end c.args.view.now)) (sym (c.in_ok-push.ensures.ok ∙ ap (λ l. l ++ c.in_ok-x.x ∷ []) c.new-xs.ensures));
   moves = omega (arith, c.in_ok-x.ensures.moves);
   inside = c.in_ok-x.ensures.inside;
 }
@@ -30,7 +30,7 @@ returns-in_err-y-clause-gives c =
 
 pub binds-preserved : goal.binds-preserved
 binds-preserved c = record {
-  so_far = after _ _ _ _ _ _ (c.binds.invariant.so_far ∙ pat.binds_more _ _ _ _ _ _ _ _ (sym c.is.ensures.value ∙ c.binds-test.true) (c.take-next.ensures.taken (is k.Comma) (sym c.is.ensures.value ∙ c.binds-test.true))) (c.in_ok-y.ensures.gives) ∙ ap (λ l. more_binds c.args.lenient c.args.room.brackets c.args.room.limit c.in_ok-y.y_left l (drop c.in_ok-y.y_end c.args.source.now)) (sym c.in_ok-push-2.ensures.ok);
+  so_far = after _ _ _ _ _ _ (c.binds.invariant.so_far ∙ pat.binds_more _ _ _ _ _ _ _ _ (sym c.is.ensures.value ∙ c.binds-test.true) (c.take-next.ensures.taken (is k.Comma) (sym c.is.ensures.value ∙ c.binds-test.true))) (c.in_ok-y.ensures.gives) ∙ ap (λ l. more_binds c.args.lenient c.args.budget.brackets c.args.budget.limit c.in_ok-y.y_left l (drop c.in_ok-y.y_end c.args.view.now)) (sym c.in_ok-push-2.ensures.ok);
   moves = omega (arith, c.in_ok-y.ensures.moves);
   inside = c.in_ok-y.ensures.inside;
 }

@@ -4,10 +4,10 @@ use Rattle.sw_parse_expr.proofs.patterns.bind_list.Given as goal
 
 abbrev pub invariant-binds : goal.invariant-binds
 invariant-binds l = record {
-  so_far : bind_list l.lenient l.room.brackets l.room.limit l.room.left (drop l.at l.source) ≡ more_binds l.lenient l.room.brackets l.room.limit l.left l.xs (drop l.end l.source);
+  so_far : bind_list l.lenient l.budget.brackets l.budget.limit l.budget.left (drop l.at l.view) ≡ more_binds l.lenient l.budget.brackets l.budget.limit l.left l.xs (drop l.end l.view);
   moves : l.at ≤ l.end;
-  inside : l.end ≤ length l.source;
+  inside : l.end ≤ length l.view;
 }
 
 abbrev pub decreases-binds : goal.decreases-binds
-decreases-binds l = length l.source - l.end
+decreases-binds l = length l.view - l.end

@@ -2,7 +2,7 @@ use Rattle.std.proofs.Common.{drop, sym, ap, ◌∙◌}
 use Rattle.std.proofs.lemmas.Result.{err_from_is_err_and}
 use Rattle.sw_grammar.specs.Reading.{got}
 use Rattle.sw_tree.specs.declared.stmt.Pattern.TheVariants as p
-use Rattle.sw_syntax.proofs.PatternSteps as pat
+use Rattle.sw_syntax.proofs.PatternEquations as pat
 use Rattle.sw_syntax.proofs.Exits.{after, passes}
 use Rattle.sw_parse_expr.proofs.SwitchExits.{case_step}
 use Rattle.sw_parse_expr.proofs.switch_patterns.case.Goals as goal
@@ -28,4 +28,4 @@ returns-in_err-xs-clause-gives c =
     rw (p.1, p.2) (passes _ _ _ _ _ (after _ _ _ _ _ _ (after _ _ _ _ _ _ (after _ _ _ _ _ _ (pat.pat_case _ _ _ _ _ c.requires.0 c.requires.1 c.requires.2) (c.in_ok-outer.ensures.gives) ∙ case_step _ _ _ _ _ _) (c.in_ok-dot.ensures.gives c.in_ok-outer.left)) (c.in_ok-token.ensures.gives c.in_ok-outer.left)) (c.in_err-xs.ensures.gives))
 
 pub returns-clause-gives : goal.returns-clause-gives
-returns-clause-gives c = after _ _ _ _ _ _ (after _ _ _ _ _ _ (after _ _ _ _ _ _ (after _ _ _ _ _ _ (pat.pat_case _ _ _ _ _ c.requires.0 c.requires.1 c.requires.2) (c.in_ok-outer.ensures.gives) ∙ case_step _ _ _ _ _ _) (c.in_ok-dot.ensures.gives c.in_ok-outer.left)) (c.in_ok-token.ensures.gives c.in_ok-outer.left)) (c.in_ok-xs.ensures.gives) ∙ ap (λ n. got (p.Case c.in_ok-outer.outer c.in_ok-dot.dot.span n c.in_ok-xs.xs) c.in_ok-xs.left (drop c.in_ok-xs.end c.args.source.now)) (sym c.in_ok-name.ensures)
+returns-clause-gives c = after _ _ _ _ _ _ (after _ _ _ _ _ _ (after _ _ _ _ _ _ (after _ _ _ _ _ _ (pat.pat_case _ _ _ _ _ c.requires.0 c.requires.1 c.requires.2) (c.in_ok-outer.ensures.gives) ∙ case_step _ _ _ _ _ _) (c.in_ok-dot.ensures.gives c.in_ok-outer.left)) (c.in_ok-token.ensures.gives c.in_ok-outer.left)) (c.in_ok-xs.ensures.gives) ∙ ap (λ n. got (p.Case c.in_ok-outer.outer c.in_ok-dot.dot.span n c.in_ok-xs.xs) c.in_ok-xs.left (drop c.in_ok-xs.end c.args.view.now)) (sym c.in_ok-name.ensures)

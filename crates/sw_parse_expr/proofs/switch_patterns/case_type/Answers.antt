@@ -1,6 +1,6 @@
 use Rattle.std.proofs.Common.{sym, ◌∙◌}
 use Rattle.sw_syntax.specs.Tests.{is_name}
-use Rattle.sw_syntax.proofs.PatternSteps as pat
+use Rattle.sw_syntax.proofs.PatternEquations as pat
 use Rattle.sw_parse_expr.proofs.SwitchExits.{some_name}
 use Rattle.sw_parse_expr.proofs.switch_patterns.case_type.Goals as goal
 

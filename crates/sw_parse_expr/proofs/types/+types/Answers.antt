@@ -5,7 +5,7 @@ use Rattle.sw_grammar.specs.Reading.{got}
 use Rattle.sw_tree.specs.declared.types.«Type».TheVariants as tree
 use Rattle.sw_syntax.specs.Members.{questions}
 use Rattle.sw_syntax.specs.Tests.{is, is_joined_question}
-use Rattle.sw_syntax.proofs.TypeSteps as type
+use Rattle.sw_syntax.proofs.TypeEquations as type
 use Rattle.sw_syntax.proofs.Exits.{after, passes}
 use Rattle.sw_parse_expr.proofs.types.+types.Goals as goal
 
@@ -22,11 +22,11 @@ type_-marks-init t c = record {
 }
 
 pub type_-returns-then-left-eq0-clause-gives : goal.type_-returns-then-left-eq0-clause-gives
-type_-returns-then-left-eq0-clause-gives t c = c.marks.invariant.so_far ∙ type.questions_full _ _ _ _ _ _ (sym c.is.ensures.value ∙ c.marks-test.true) c.if-left-eq0.true
+type_-returns-then-left-eq0-clause-gives t c = c.marks.invariant.so_far ∙ type.questions_over_budget _ _ _ _ _ _ (sym c.is.ensures.value ∙ c.marks-test.true) c.if-left-eq0.true
 
 pub type_-marks-preserved : goal.type_-marks-preserved
 type_-marks-preserved t c = record {
-  so_far = c.marks.invariant.so_far ∙ type.questions_more _ _ _ _ _ _ _ _ (sym c.is.ensures.value ∙ c.marks-test.true) c.if-left-eq0.false (c.take-next.ensures.taken is_joined_question (sym c.is.ensures.value ∙ c.marks-test.true)) ∙ ap (λ x. questions c.args.lenient c.args.room.brackets c.args.room.limit (c.marks.left - 1) x (drop c.take-next.result.1 c.args.source.now)) (sym c.in_ok-x-2.ensures);
+  so_far = c.marks.invariant.so_far ∙ type.questions_more _ _ _ _ _ _ _ _ (sym c.is.ensures.value ∙ c.marks-test.true) c.if-left-eq0.false (c.take-next.ensures.taken is_joined_question (sym c.is.ensures.value ∙ c.marks-test.true)) ∙ ap (λ x. questions c.args.lenient c.args.budget.brackets c.args.budget.limit (c.marks.left - 1) x (drop c.take-next.result.1 c.args.view.now)) (sym c.in_ok-x-2.ensures);
   moves = omega (arith, c.marks.invariant.moves, c.take-next.ensures.next);
   inside = omega (arith, c.is.ensures.within c.marks-test.true, c.take-next.ensures.next);
 }
@@ -37,26 +37,26 @@ type_-returns-clause-gives t c = c.marks.invariant.so_far ∙ type.questions_end
 pub base-returns-in_err-token-clause-gives : goal.base-returns-in_err-token-clause-gives
 base-returns-in_err-token-clause-gives t c =
     let p = err_from_is_err_and c.from_residual.result c.from_residual.ensures.1 in
-    rw (p.1, p.2) (passes _ _ _ _ _ (type.base_any _ _ _ _ _ _ _ (sym c.is.ensures.value ∙ c.if-is.false) (sym c.is-2.ensures.value ∙ c.if-is-2.false) (sym c.is-3.ensures.value ∙ c.if-is-3.true) (c.take-next.ensures.taken (is k.Any) (sym c.is-3.ensures.value ∙ c.if-is-3.true))) (c.in_err-token.ensures.gives c.args.room.left))
+    rw (p.1, p.2) (passes _ _ _ _ _ (type.base_any _ _ _ _ _ _ _ (sym c.is.ensures.value ∙ c.if-is.false) (sym c.is-2.ensures.value ∙ c.if-is-2.false) (sym c.is-3.ensures.value ∙ c.if-is-3.true) (c.take-next.ensures.taken (is k.Any) (sym c.is-3.ensures.value ∙ c.if-is-3.true))) (c.in_err-token.ensures.gives c.args.budget.left))
 
 pub base-returns-then-is-3-clause-gives : goal.base-returns-then-is-3-clause-gives
-base-returns-then-is-3-clause-gives t c = after _ _ _ _ _ _ (type.base_any _ _ _ _ _ _ _ (sym c.is.ensures.value ∙ c.if-is.false) (sym c.is-2.ensures.value ∙ c.if-is-2.false) (sym c.is-3.ensures.value ∙ c.if-is-3.true) (c.take-next.ensures.taken (is k.Any) (sym c.is-3.ensures.value ∙ c.if-is-3.true))) (c.in_ok-token.ensures.gives c.args.room.left) ∙ ap (λ n. got (tree.Any c.take-next.result.0.span n) c.args.room.left (drop c.in_ok-token.end c.args.source.now)) (sym c.in_ok-name.ensures)
+base-returns-then-is-3-clause-gives t c = after _ _ _ _ _ _ (type.base_any _ _ _ _ _ _ _ (sym c.is.ensures.value ∙ c.if-is.false) (sym c.is-2.ensures.value ∙ c.if-is-2.false) (sym c.is-3.ensures.value ∙ c.if-is-3.true) (c.take-next.ensures.taken (is k.Any) (sym c.is-3.ensures.value ∙ c.if-is-3.true))) (c.in_ok-token.ensures.gives c.args.budget.left) ∙ ap (λ n. got (tree.Any c.take-next.result.0.span n) c.args.budget.left (drop c.in_ok-token.end c.args.view.now)) (sym c.in_ok-name.ensures)
 
-pub array-returns-then-room-eq0-clause-gives : goal.array-returns-then-room-eq0-clause-gives
-array-returns-then-room-eq0-clause-gives t c = type.base_array_deep _ _ _ _ _ c.requires.0 c.requires.1 c.if-room-eq0.true
+pub array-returns-then-budget-eq0-clause-gives : goal.array-returns-then-budget-eq0-clause-gives
+array-returns-then-budget-eq0-clause-gives t c = type.base_array_deep _ _ _ _ _ c.requires.0 c.requires.1 c.if-budget-eq0.true
 
-pub array-returns-then-room-eq0-2-clause-gives : goal.array-returns-then-room-eq0-2-clause-gives
-array-returns-then-room-eq0-2-clause-gives t c = type.base_array_full _ _ _ _ _ c.requires.0 c.requires.1 c.if-room-eq0.false c.if-room-eq0-2.true
+pub array-returns-then-budget-eq0-2-clause-gives : goal.array-returns-then-budget-eq0-2-clause-gives
+array-returns-then-budget-eq0-2-clause-gives t c = type.base_array_over_budget _ _ _ _ _ c.requires.0 c.requires.1 c.if-budget-eq0.false c.if-budget-eq0-2.true
 
 pub array-returns-in_err-x-clause-gives : goal.array-returns-in_err-x-clause-gives
 array-returns-in_err-x-clause-gives t c =
     let p = err_from_is_err_and c.from_residual.result c.from_residual.ensures.1 in
-    rw (p.1, p.2) (passes _ _ _ _ _ (type.base_array _ _ _ _ _ _ _ c.requires.0 c.requires.1 c.if-room-eq0.false c.if-room-eq0-2.false (c.take-next.ensures.taken (is k.LeftBracket) c.requires.1)) (c.in_err-x.ensures.gives))
+    rw (p.1, p.2) (passes _ _ _ _ _ (type.base_array _ _ _ _ _ _ _ c.requires.0 c.requires.1 c.if-budget-eq0.false c.if-budget-eq0-2.false (c.take-next.ensures.taken (is k.LeftBracket) c.requires.1)) (c.in_err-x.ensures.gives))
 
-pub array-returns-in_err-behind-clause-gives : goal.array-returns-in_err-behind-clause-gives
-array-returns-in_err-behind-clause-gives t c =
-    let p = err_from_is_err_and c.from_residual-in_err-behind.result c.from_residual-in_err-behind.ensures.1 in
-    rw (p.1, p.2) (passes _ _ _ _ _ (after _ _ _ _ _ _ (type.base_array _ _ _ _ _ _ _ c.requires.0 c.requires.1 c.if-room-eq0.false c.if-room-eq0-2.false (c.take-next.ensures.taken (is k.LeftBracket) c.requires.1)) (c.in_ok-x.ensures.gives)) (c.in_err-behind.ensures.gives c.in_ok-x.left))
+pub array-returns-in_err-after-clause-gives : goal.array-returns-in_err-after-clause-gives
+array-returns-in_err-after-clause-gives t c =
+    let p = err_from_is_err_and c.from_residual-in_err-after.result c.from_residual-in_err-after.ensures.1 in
+    rw (p.1, p.2) (passes _ _ _ _ _ (after _ _ _ _ _ _ (type.base_array _ _ _ _ _ _ _ c.requires.0 c.requires.1 c.if-budget-eq0.false c.if-budget-eq0-2.false (c.take-next.ensures.taken (is k.LeftBracket) c.requires.1)) (c.in_ok-x.ensures.gives)) (c.in_err-after.ensures.gives c.in_ok-x.left))
 
 pub array-returns-clause-gives : goal.array-returns-clause-gives
-array-returns-clause-gives t c = after _ _ _ _ _ _ (after _ _ _ _ _ _ (type.base_array _ _ _ _ _ _ _ c.requires.0 c.requires.1 c.if-room-eq0.false c.if-room-eq0-2.false (c.take-next.ensures.taken (is k.LeftBracket) c.requires.1)) (c.in_ok-x.ensures.gives)) (c.in_ok-behind.ensures.gives c.in_ok-x.left) ∙ ap (λ x. got (tree.Array c.take-next.result.0.span x) c.in_ok-x.left (drop c.in_ok-behind.behind c.args.source.now)) (sym c.in_ok-element.ensures)
+array-returns-clause-gives t c = after _ _ _ _ _ _ (after _ _ _ _ _ _ (type.base_array _ _ _ _ _ _ _ c.requires.0 c.requires.1 c.if-budget-eq0.false c.if-budget-eq0-2.false (c.take-next.ensures.taken (is k.LeftBracket) c.requires.1)) (c.in_ok-x.ensures.gives)) (c.in_ok-after.ensures.gives c.in_ok-x.left) ∙ ap (λ x. got (tree.Array c.take-next.result.0.span x) c.in_ok-x.left (drop c.in_ok-after.after c.args.view.now)) (sym c.in_ok-element.ensures)

@@ -3,7 +3,7 @@ use Rattle.std.proofs.lemmas.Result.{err_from_is_err_and}
 use Rattle.sw_lex.specs.declared.token.TokenKind.TheVariants as k
 use Rattle.sw_syntax.specs.Tests.{is}
 use Rattle.sw_syntax.proofs.Exits.{after, passes}
-use Rattle.sw_syntax.proofs.StmtSteps as stmt
+use Rattle.sw_syntax.proofs.StmtEquations as stmt
 use Rattle.sw_parse_stmt.proofs.parts.annotation.Goals as goal
 
 pub returns-then-not-is-clause-gives : goal.returns-then-not-is-clause-gives

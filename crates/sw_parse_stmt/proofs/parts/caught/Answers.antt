@@ -1,7 +1,7 @@
 use Rattle.std.proofs.Common.{sym, ◌∙◌}
 use Rattle.std.proofs.lemmas.Result.{err_from_is_err_and}
 use Rattle.sw_syntax.proofs.Exits.{after, passes}
-use Rattle.sw_syntax.proofs.StmtSteps as stmt
+use Rattle.sw_syntax.proofs.StmtEquations as stmt
 use Rattle.sw_parse_stmt.proofs.parts.caught.Goals as goal
 
 pub returns-then-not-stands-clause-gives : goal.returns-then-not-stands-clause-gives

@@ -4,10 +4,10 @@ use Rattle.sw_parse_stmt.proofs.parts.conditions.Given as goal
 
 abbrev pub invariant-conditions : goal.invariant-conditions
 invariant-conditions l = record {
-  so_far : cond_list l.lenient l.room.brackets l.room.limit l.room.left (drop l.at l.source) ≡ more_conds l.lenient l.room.brackets l.room.limit l.left l.xs (drop l.end l.source);
+  so_far : cond_list l.lenient l.budget.brackets l.budget.limit l.budget.left (drop l.at l.view) ≡ more_conds l.lenient l.budget.brackets l.budget.limit l.left l.xs (drop l.end l.view);
   moves : l.at < l.end;
-  inside : l.end ≤ length l.source;
+  inside : l.end ≤ length l.view;
 }
 
 abbrev pub decreases-conditions : goal.decreases-conditions
-decreases-conditions l = length l.source - l.end
+decreases-conditions l = length l.view - l.end

@@ -5,11 +5,11 @@ use Rattle.sw_grammar.specs.Reading.{got}
 use Rattle.sw_syntax.specs.Bodies.{more_patterns}
 use Rattle.sw_syntax.specs.Tests.{is}
 use Rattle.sw_syntax.proofs.Exits.{after, passes}
-use Rattle.sw_syntax.proofs.StmtSteps as stmt
+use Rattle.sw_syntax.proofs.StmtEquations as stmt
 use Rattle.sw_parse_stmt.proofs.parts.patterns.Goals as goal
 
 pub returns-then-not-stands-clause-gives : goal.returns-then-not-stands-clause-gives
-returns-then-not-stands-clause-gives c = stmt.patterns_none _ _ _ _ _ (sym c.stands.ensures.value ∙ c.if-not-stands.true) ∙ ap (λ l. got l c.args.room.left (drop c.args.at c.args.source.now)) (sym c.new-xs.ensures)
+returns-then-not-stands-clause-gives c = stmt.patterns_none _ _ _ _ _ (sym c.stands.ensures.value ∙ c.if-not-stands.true) ∙ ap (λ l. got l c.args.budget.left (drop c.args.at c.args.view.now)) (sym c.new-xs.ensures)
 
 pub returns-in_err-x-clause-gives : goal.returns-in_err-x-clause-gives
 returns-in_err-x-clause-gives c =
@@ -18,7 +18,7 @@ returns-in_err-x-clause-gives c =
 
 pub patterns-init : goal.patterns-init
 patterns-init c = record {
-  so_far = after _ _ _ _ _ _ (stmt.patterns_first _ _ _ _ _ (sym c.stands.ensures.value ∙ c.if-not-stands.false)) (c.in_ok-x.ensures.gives) ∙ ap (λ l. more_patterns c.args.lenient c.args.room.brackets c.args.room.limit c.in_ok-x.left l (drop c.in_ok-x.end c.args.source.now)) (sym (c.in_ok-push.ensures.ok ∙ ap (λ l. l ++ c.in_ok-x.x ∷ []) c.new-xs.ensures));
+  so_far = after _ _ _ _ _ _ (stmt.patterns_first _ _ _ _ _ (sym c.stands.ensures.value ∙ c.if-not-stands.false)) (c.in_ok-x.ensures.gives) ∙ ap (λ l. more_patterns c.args.lenient c.args.budget.brackets c.args.budget.limit c.in_ok-x.left l (drop c.in_ok-x.end c.args.view.now)) (sym (c.in_ok-push.ensures.ok ∙ ap (λ l. l ++ c.in_ok-x.x ∷ []) c.new-xs.ensures));
   moves = omega (arith, c.in_ok-x.ensures.moves);
   inside = c.in_ok-x.ensures.inside;
 }
@@ -30,7 +30,7 @@ returns-in_err-y-clause-gives c =
 
 pub patterns-preserved : goal.patterns-preserved
 patterns-preserved c = record {
-  so_far = after _ _ _ _ _ _ (c.patterns.invariant.so_far ∙ stmt.patterns_more _ _ _ _ _ _ _ _ (sym c.is.ensures.value ∙ c.patterns-test.true) (c.take-next.ensures.taken (is k.Comma) (sym c.is.ensures.value ∙ c.patterns-test.true))) (c.in_ok-y.ensures.gives) ∙ ap (λ l. more_patterns c.args.lenient c.args.room.brackets c.args.room.limit c.in_ok-y.y_left l (drop c.in_ok-y.y_end c.args.source.now)) (sym c.in_ok-push-2.ensures.ok);
+  so_far = after _ _ _ _ _ _ (c.patterns.invariant.so_far ∙ stmt.patterns_more _ _ _ _ _ _ _ _ (sym c.is.ensures.value ∙ c.patterns-test.true) (c.take-next.ensures.taken (is k.Comma) (sym c.is.ensures.value ∙ c.patterns-test.true))) (c.in_ok-y.ensures.gives) ∙ ap (λ l. more_patterns c.args.lenient c.args.budget.brackets c.args.budget.limit c.in_ok-y.y_left l (drop c.in_ok-y.y_end c.args.view.now)) (sym c.in_ok-push-2.ensures.ok);
   moves = omega (arith, c.in_ok-y.ensures.moves);
   inside = c.in_ok-y.ensures.inside;
 }

@@ -4,10 +4,10 @@ use Rattle.sw_parse_stmt.proofs.parts.patterns.Given as goal
 
 abbrev pub invariant-patterns : goal.invariant-patterns
 invariant-patterns l = record {
-  so_far : pattern_list l.lenient l.room.brackets l.room.limit l.room.left (drop l.at l.source) ≡ more_patterns l.lenient l.room.brackets l.room.limit l.left l.xs (drop l.end l.source);
+  so_far : pattern_list l.lenient l.budget.brackets l.budget.limit l.budget.left (drop l.at l.view) ≡ more_patterns l.lenient l.budget.brackets l.budget.limit l.left l.xs (drop l.end l.view);
   moves : l.at ≤ l.end;
-  inside : l.end ≤ length l.source;
+  inside : l.end ≤ length l.view;
 }
 
 abbrev pub decreases-patterns : goal.decreases-patterns
-decreases-patterns l = length l.source - l.end
+decreases-patterns l = length l.view - l.end

@@ -1,7 +1,7 @@
 use Rattle.std.proofs.Common.{}
 use Rattle.std.proofs.lemmas.Result.{err_from_is_err_and}
 use Rattle.sw_syntax.proofs.Exits.{after, gives_by, passes}
-use Rattle.sw_syntax.proofs.StmtSteps as stmt
+use Rattle.sw_syntax.proofs.StmtEquations as stmt
 use Rattle.sw_parse_stmt.proofs.simple.expression.Goals as goal
 
 pub returns-in_err-x-clause-gives : goal.returns-in_err-x-clause-gives

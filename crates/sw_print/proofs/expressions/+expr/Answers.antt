@@ -2,7 +2,7 @@ use Rattle.std.proofs.Common.{◌++◌, ◌∷◌, [], refl, ap, ◌∙◌}
 use Rattle.std.proofs.lemmas.Result.{IfOk-equal}
 use Rattle.sw_layout.specs.declared.gap.Gap.TheVariants as gap
 use Rattle.sw_lex.specs.declared.token.TokenKind.TheVariants as k
-use Rattle.sw_layout.specs.Words.{row_text}
+use Rattle.sw_layout.specs.Words.{words_text}
 use Rattle.sw_print.specs.Expressions.{word, expr_words, argument_words}
 use Rattle.sw_print.proofs.Lists.{joined_step_2, others_step, others_end}
 use Rattle.sw_print.proofs.Pieces.{middle, string_whole, string_pieces}
@@ -27,7 +27,7 @@ write_arguments-returns-after-loop-argument t c =
 pub write_string-loop-piece-preserved : goal.write_string-loop-piece-preserved
 write_string-loop-piece-preserved t c =
     joined_step_2 middle (λ piece. expr_words piece.value gap.Joined) (λ piece. word k.StringMiddle piece.text gap.Joined ∷ []) (λ piece. refl)
-    _ _ _ _ _ _ _ c.loop-piece-test.true c.piece-item.is c.loop-piece.invariant c.in_ok-write_expr-in-len1-up.ensures (c.in_ok-word-in-len1-up-2.ensures ∙ ap (λ text. c.write_expr.new.page ++ row_text (word k.StringMiddle text gap.Joined ∷ [])) c.as_bytes.ensures)
+    _ _ _ _ _ _ _ c.loop-piece-test.true c.piece-item.is c.loop-piece.invariant c.in_ok-write_expr-in-len1-up.ensures (c.in_ok-word-in-len1-up-2.ensures ∙ ap (λ text. c.write_expr.new.page ++ words_text (word k.StringMiddle text gap.Joined ∷ [])) c.as_bytes.ensures)
 
 pub write_string-returns-in-empty : goal.write_string-returns-in-empty
 write_string-returns-in-empty t c = IfOk-equal c.word.result _ _ _ c.word.ensures (string_whole c.args.text.now c.args.pieces.now c.args.before c.args.page.now c.in-empty.len_below)
@@ -35,6 +35,6 @@ write_string-returns-in-empty t c = IfOk-equal c.word.result _ _ _ c.word.ensure
 pub write_string-returns-in_ok-write_expr-in-len1-up-2 : goal.write_string-returns-in_ok-write_expr-in-len1-up-2
 write_string-returns-in_ok-write_expr-in-len1-up-2 t c =
     IfOk-equal c.word-in-len1-up-2.result _ _ _ c.word-in-len1-up-2.ensures
-    (ap (λ text. c.write_expr-in-len1-up.new.page ++ row_text (word k.StringLast text gap.Joined ∷ [])) c.as_bytes-in-len1-up.ensures
+    (ap (λ text. c.write_expr-in-len1-up.new.page ++ words_text (word k.StringLast text gap.Joined ∷ [])) c.as_bytes-in-len1-up.ensures
     ∙ string_pieces c.args.text.now c.args.pieces.now c.last-item.result c.loop-piece.piece-index c.args.before c.args.page.now c.word-in-len1-up.new.self c.loop-piece.page c.write_expr-in-len1-up.new.page
     c.in-len1-up.len_at_least c.last-item.is c.in_ok-word-in-len1-up.ensures c.loop-piece.invariant c.loop-piece-test.false c.in_ok-write_expr-in-len1-up-2.ensures)

@@ -2,7 +2,7 @@ use Rattle.std.proofs.Common.{[], ◌∷◌, ◌++◌, refl, sym, ap, ◌∙◌,
 use Rattle.std.proofs.lemmas.Result.{IfOk-equal}
 use Rattle.sw_lex.specs.declared.token.TokenKind.TheVariants as k
 use Rattle.sw_layout.specs.declared.gap.Gap.TheVariants as gap
-use Rattle.sw_layout.specs.Words.{plain, row_text}
+use Rattle.sw_layout.specs.Words.{plain, words_text}
 use Rattle.sw_print.specs.Expressions.{perhaps}
 use Rattle.sw_print.specs.Statements.{stmt_words, arm_words, block_words, branch_words, catch_words, separated}
 use Rattle.sw_print.proofs.Lists.{joined_step, joined_step_2, joined_end}
@@ -17,14 +17,14 @@ write_else_ifs-loop-branch-preserved t c =
 
 pub write_else_ifs-returns : goal.write_else_ifs-returns
 write_else_ifs-returns t c =
-    joined_end else_if _ _ _ _ c.loop-branch.invariant c.loop-branch-test.false ∙ ap (λ l. c.args.page.now ++ row_text l) (else_ifs_joined c.args.branches.now)
+    joined_end else_if _ _ _ _ c.loop-branch.invariant c.loop-branch-test.false ∙ ap (λ l. c.args.page.now ++ words_text l) (else_ifs_joined c.args.branches.now)
 
 pub write_catches-loop-catch-preserved : goal.write_catches-loop-catch-preserved
 write_catches-loop-catch-preserved t c = joined_step (λ x. catch_words x gap.Space) _ _ _ _ _ _ c.loop-catch-test.true c.catch-item.is c.loop-catch.invariant c.in_ok-write_catch.ensures
 
 pub write_catches-returns : goal.write_catches-returns
 write_catches-returns t c =
-    joined_end (λ x. catch_words x gap.Space) _ _ _ _ c.loop-catch.invariant c.loop-catch-test.false ∙ ap (λ l. c.args.page.now ++ row_text l) (catches_joined catch_words c.args.catches.now)
+    joined_end (λ x. catch_words x gap.Space) _ _ _ _ c.loop-catch.invariant c.loop-catch-test.false ∙ ap (λ l. c.args.page.now ++ words_text l) (catches_joined catch_words c.args.catches.now)
 
 pub write_statements-loop-other-preserved : goal.write_statements-loop-other-preserved
 write_statements-loop-other-preserved t c =
@@ -36,15 +36,15 @@ write_statements-returns-after-loop-other t c =
 
 pub write_stmt-returns-in-None : goal.write_stmt-returns-in-None
 write_stmt-returns-in-None t c =
-    sym (append-nil _) ∙ ap (λ o. c.write_else_ifs.new.page ++ row_text (perhaps (λ body. plain k.Else gap.Space ∷ block_words body) o)) (sym c.in-None.is)
+    sym (append-nil _) ∙ ap (λ o. c.write_else_ifs.new.page ++ words_text (perhaps (λ body. plain k.Else gap.Space ∷ block_words body) o)) (sym c.in-None.is)
     ∙ if_rest c.args.x.now c.in-If.first c.in-If.others c.as_slice.result.now c.in-If.otherwise c.args.before c.args.page.now c.write_branch.new.page c.write_else_ifs.new.page
     c.in-If.is c.as_slice.ensures c.in_ok-write_branch-in-If.ensures c.in_ok-write_else_ifs-in-If.ensures
 
 pub write_stmt-returns-in-Some : goal.write_stmt-returns-in-Some
 write_stmt-returns-in-Some t c =
     IfOk-equal c.write_else.result _ _ _ c.write_else.ensures
-    (ap (λ body. c.write_else_ifs.new.page ++ row_text (plain k.Else gap.Space ∷ block_words body)) c.as_slice-in-Some.ensures
-    ∙ ap (λ o. c.write_else_ifs.new.page ++ row_text (perhaps (λ body. plain k.Else gap.Space ∷ block_words body) o)) (sym c.in-Some.is)
+    (ap (λ body. c.write_else_ifs.new.page ++ words_text (plain k.Else gap.Space ∷ block_words body)) c.as_slice-in-Some.ensures
+    ∙ ap (λ o. c.write_else_ifs.new.page ++ words_text (perhaps (λ body. plain k.Else gap.Space ∷ block_words body) o)) (sym c.in-Some.is)
     ∙ if_rest c.args.x.now c.in-If.first c.in-If.others c.as_slice.result.now c.in-If.otherwise c.args.before c.args.page.now c.write_branch.new.page c.write_else_ifs.new.page
     c.in-If.is c.as_slice.ensures c.in_ok-write_branch-in-If.ensures c.in_ok-write_else_ifs-in-If.ensures)
 

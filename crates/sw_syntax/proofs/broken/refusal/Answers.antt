@@ -5,9 +5,9 @@ use Rattle.sw_syntax.proofs.PlaceLemmas.{stands_at}
 use Rattle.sw_syntax.proofs.broken.refusal.Goals as goal
 
 pub returns-clause-names : goal.returns-clause-names
-returns-clause-names c = (c.at.result.span, refl, stands_at c.args.tokens.now c.args.place (token_of c.at.result) c.at.ensures.token)
+returns-clause-names c = (c.at.result.span, refl, stands_at c.args.tokens.now c.args.position (token_of c.at.result) c.at.ensures.token)
 
 pub returns-clause-cause : goal.returns-clause-cause
 returns-clause-cause c = λ s at broken.
-    first_by_place s c.args.tokens.now at c.args.rule c.args.place c.at.result.span c.at.ensures.ordered broken
-    (stands_at c.args.tokens.now c.args.place (token_of c.at.result) c.at.ensures.token)
+    first_by_place s c.args.tokens.now at c.args.rule c.args.position c.at.result.span c.at.ensures.ordered broken
+    (stands_at c.args.tokens.now c.args.position (token_of c.at.result) c.at.ensures.token)

@@ -1,6 +1,6 @@
 use Rattle.std.proofs.Common.{◌≡◌, map, take}
-use Rattle.sw_thin.specs.ThinTrees.{func_of}
-use Rattle.sw_thin.specs.Codes.{func_code}
+use Rattle.sw_thin.specs.ProgramView.{func_of}
+use Rattle.sw_thin.specs.Lowering.{func_code}
 use Rattle.sw_thin.proofs.lowering.lower.Given as goal
 
 -- the funcs so far are lowered

@@ -1,7 +1,7 @@
 use Rattle.std.proofs.Common.{◌≡◌, ◌∷◌, ◌++◌, [], drop, sym, ap, ◌∙◌, arith, subst, add-one, length, ◌+◌}
 use Rattle.std.proofs.lemmas.List.{append-nil}
-use Rattle.sw_thin.specs.ThinTrees.{stmt_of, body_of}
-use Rattle.sw_thin.specs.Codes.{declared_types, body_code, body_shapes}
+use Rattle.sw_thin.specs.ProgramView.{stmt_of, body_of}
+use Rattle.sw_thin.specs.Lowering.{declared_types, body_code, body_shapes}
 use Rattle.sw_thin.specs.Drafts.{scope_of}
 use Rattle.sw_thin.proofs.LoweringLemmas.{next_left, none_to_do, variables_more, instrs_more, shapes_more, lowered}
 use Rattle.sw_thin.proofs.lowering.lower_func.Goals as goal

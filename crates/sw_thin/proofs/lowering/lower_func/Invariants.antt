@@ -1,6 +1,6 @@
 use Rattle.std.proofs.Common.{◌≡◌, ◌++◌, [], drop}
-use Rattle.sw_thin.specs.ThinTrees.{body_of}
-use Rattle.sw_thin.specs.Codes.{body_code, body_shapes, declared_types}
+use Rattle.sw_thin.specs.ProgramView.{body_of}
+use Rattle.sw_thin.specs.Lowering.{body_code, body_shapes, declared_types}
 use Rattle.sw_thin.specs.Drafts.{scope_of}
 use Rattle.sw_thin.proofs.lowering.lower_func.Given as goal
 

@@ -1,7 +1,7 @@
 use Rattle.std.proofs.Common.{◌++◌, length, ap, ◌∙◌}
 use Rattle.std.specs.Prelude.{codes}
 use Rattle.std.specs.List.{flat_map}
-use Rattle.sw_thin.specs.Report.{counts_text, node_line, log_line, task_line}
+use Rattle.sw_thin.specs.ReportText.{counts_text, node_line, log_line, task_line}
 use Rattle.sw_thin.specs.World.{the_task}
 use Rattle.sw_thin.proofs.ReportLemmas.{report_pushed}
 use Rattle.sw_thin.proofs.run.report.Goals as goal

@@ -2,4 +2,4 @@ use Rattle.swda.proofs.TopLemmas.{answered}
 use Rattle.swda.proofs.top.swda.Goals as goal
 
 pub returns : goal.returns
-returns g c = answered _ _ c.answer.result c.answer.ensures.answer c.answer.ensures.loads c.answer.ensures.writes
+returns g c = answered _ _ c.serve.result c.serve.ensures.answers c.serve.ensures.loads c.serve.ensures.writes

@@ -1,7 +1,7 @@
 //! Sources, each with the rule that it breaks first and its place, or `none` where it breaks none: `SOURCE => ANSWER`.
 //! `\n`, `\r`, `\t` and `\xHH` stand for bytes, and `\\` for a backslash.
 
-/// Bodies, each of which stands in `func f() { }` on its first line, behind one space.
+/// Bodies, each of which stands in `func f() { }` on its first line, after one space.
 pub const BODIES: &str = r##"
 "a""b" => P2 1:15
 "\\u{}" => L2 1:12

@@ -1,6 +1,6 @@
 use Rattle.std.proofs.Common.{◌≡◌, sym, subst}
 use Rattle.sw_lex.specs.declared.scan.Scan.{Scan}
-use Rattle.sw_lex.specs.Forms.{size_of}
+use Rattle.sw_lex.specs.Lexemes.{size_of}
 use Rattle.sw_lex.specs.Scanning.{Known}
 use Rattle.sw_lex.proofs.ScanLemmas.{known_start, read_all}
 use Rattle.sw_lex.proofs.scan.Scan.read.Goals as goal

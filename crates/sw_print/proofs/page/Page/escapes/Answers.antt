@@ -1,5 +1,5 @@
 use Rattle.sw_layout.specs.Words.{escape, escapes}
-use Rattle.sw_print.proofs.Rows.{grown, escapes_push}
+use Rattle.sw_print.proofs.TextLemmas.{grown, escapes_push}
 use Rattle.sw_print.proofs.page.Page.escapes.Goals as goal
 
 pub loop-byte-preserved : goal.loop-byte-preserved

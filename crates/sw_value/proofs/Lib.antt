@@ -1,0 +1,3 @@
+pub mod FitLemmas
+pub mod MeaningLemmas
+pub mod SettledLemmas
