@@ -1,0 +1,4 @@
+pub mod CycleLemmas
+pub mod LeastLemmas
+pub mod LevelLemmas
+pub mod MarkLemmas
