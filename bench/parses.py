@@ -6,8 +6,8 @@ usage: bench/parses.py [PROGRAM]      (default: crates/swda/out/swda of this che
 Three are of ordinary spelling. funcs: small funcs, one on each line. array: one array literal, of the integers from 0 on.
 deep: lines with 63 brackets within the braces of a func, and a name and a mark in each. Two have almost a token in each
 byte. dense array: one array literal of 7s. dense deep: lines with 63 brackets round a 1. The last size of each is the
-greatest that a source may have. Each source breaks no rule of tokens and of the grammar, and is no thin one, so that it is
-lexed and parsed and then `not built`.
+greatest that a source may have. Each source breaks no rule of tokens, of the grammar and of names, and is no thin one, so that
+it is lexed, parsed and named, and then `not built`.
 
 It ends with status 1 where the answer is another one, where twice the bytes take GROWTH times the time or more, or where a
 run takes MOST_MEMORY times the bytes of its source or more; with status 2 where the program cannot be run. The gate does
@@ -46,13 +46,13 @@ def array(size):
 
 
 def nested(line, size):
-    first, last = b"func main(system: NodeSystem) async throws {\n", b"}\n"
+    first, last = b"func deep(counter: Int) {\n", b"}\n"
     count = (size - len(first) - len(last)) // len(line)
     return padded(first + line * count + last, size)
 
 
 def deep(size):
-    return nested(b"  let x = " + b"(counter + " * 63 + b"1" + b")" * 63 + b"\n", size)
+    return nested(b"  _ = " + b"(counter + " * 63 + b"1" + b")" * 63 + b"\n", size)
 
 
 def dense_array(size):
@@ -62,7 +62,7 @@ def dense_array(size):
 
 
 def dense_deep(size):
-    return nested(b"  let x = " + b"(" * 63 + b"1" + b")" * 63 + b"\n", size)
+    return nested(b"  _ = " + b"(" * 63 + b"1" + b")" * 63 + b"\n", size)
 
 
 KINDS = [

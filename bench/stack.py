@@ -4,8 +4,8 @@
 usage: bench/stack.py [PROGRAM]      (default: crates/swda/out/swda of this checkout)
 
 A source may open 64 brackets, of which the brace of its func is one, and have 100 operators in one expression; parser,
-printer and drop of a tree go into each other as deep as these stand in each other. Each source breaks no rule of tokens
-and of the grammar, and is no thin one, so that it is lexed, parsed and dropped, and then `not built`.
+printer, the walk of names and the drop of a tree go into each other as deep as these stand in each other. Each source breaks no rule of tokens,
+of the grammar and of names, and is no thin one, so that it is lexed, parsed, named and dropped, and then `not built`.
 
 The least stack is what `ulimit -s` must allow, in steps of STEP kB: with it each of TRIES runs is answered so, and with a
 step less one of them is ended by a signal. It ends with status 1 where a source wants more than ENOUGH kB, or where a run
@@ -25,9 +25,13 @@ STEP = 4  # kB
 TRIES = 3
 
 
+# It declares the names of all kinds.
+HEAD = "func deep(a: Bool, b: [Int], f: Int, x: Int) async throws {"
+
+
 def valued(expression):
     """A func with a variable of this value."""
-    return f"func main(system: NodeSystem) async throws {{\n  let x = {expression}\n}}\n"
+    return f"{HEAD}\n  let x = {expression}\n}}\n"
 
 
 def nested(before, count, inner, after):
@@ -40,7 +44,7 @@ def blocks(count, inner):
     for number in range(count):
         before, after = kinds[-1 - number % len(kinds)]
         inner = before + inner + after
-    return f"func main(system: NodeSystem) async throws {{\n  {inner}\n}}\n"
+    return f"{HEAD}\n  {inner}\n}}\n"
 
 
 PARENS = nested("(", 13, "1", ")")

@@ -4,7 +4,7 @@ use Rattle.sw_thin.specs.Program.{Stmt, main_func}
 use Rattle.sw_rules.specs.declared.Refusal.{Refusal}
 use Rattle.sw_rules.specs.Refusal.{line_text}
 use Rattle.sw_tree.specs.declared.decl.Tree.{Tree}
-use Rattle.swda.specs.ReadAs.{HasTree, First, IsRead, IsRefused}
+use Rattle.swda.specs.ReadAs.{HasNamedTree, First, IsRead, IsRefused}
 use Rattle.sw_thin.specs.Thin.{IsThinTree, IsNoThinTree}
 use Rattle.sw_thin.specs.Reports.{Reports}
 use Rattle.swda.specs.Calls.{Call, Output, Files, run_words, IsGiven, Gave, AsksNothing, FailsAtSource, FailsAtPlan, WritesNothing, WritesWhole, WritesPrefix}
@@ -119,11 +119,11 @@ IsNotBuiltOrFault NotBuilt = Unit {0}
 pub record Answered (c : Call) (o : Output) (status : Status) : Type 0 where
   pub cause : Answers c o status
   pub done_completes : (names texts : Files) (tree : Tree) (body : List Stmt) → Has c names texts
-      → HasTree texts.source tree → IsThinTree body tree → texts.plan ≡ plan_text → IsDoneOrFault status
+      → HasNamedTree texts.source tree → IsThinTree body tree → texts.plan ≡ plan_text → IsDoneOrFault status
   pub refused_completes : (names texts : Files) (refusal : Refusal) → Has c names texts
       → First texts.source refusal → IsRefusedOrFault status
   pub usage_completes : IsNoForm c.words → IsUsageOrFault status
   pub not_built_completes : (names texts : Files) (tree : Tree) → Has c names texts
-      → HasTree texts.source tree → (IsNoThinTree tree ⊎ (texts.plan ≢ plan_text)) → IsNotBuiltOrFault status
+      → HasNamedTree texts.source tree → (IsNoThinTree tree ⊎ (texts.plan ≢ plan_text)) → IsNotBuiltOrFault status
   pub loads : c.before.faults ≤ c.after.faults
   pub writes : o.before.faults ≤ o.after.faults

@@ -209,10 +209,9 @@ fn sums_and_variables_are_printed(rt: HostRuntime) {
 fn other_body_lines_are_not_built(rt: HostRuntime) {
     let alloc = rt.alloc();
     let rows: &[&[u8]] = &[
-        b"  print(v0)\n",
         b"  let v1 = 1\n",
-        b"  let v0 = 1\n  print(v1)\n",
-        b"  let v0 = 1\n  print(v00)\n",
+        b"  let v1 = 1\n  print(v1)\n",
+        b"  let v00 = 1\n  print(v00)\n",
         b"  let v0 = 1\n  let v1 = v0\n",
         b"  print(1 - 2)\n",
         b"  print((1))\n",
@@ -252,6 +251,18 @@ fn sources_that_break_a_rule_are_refused(rt: HostRuntime) {
         (
             b"func main(system: NodeSystem) async throws {\n  print(1)",
             b"refused P1 2:11\n",
+        ),
+        (
+            b"func main(system: NodeSystem) async throws {\n  print(v0)\n}",
+            b"refused N3 2:9\n",
+        ),
+        (
+            b"func main(system: NodeSystem) async throws {\n  let v0 = 1\n  print(v00)\n}",
+            b"refused N3 3:9\n",
+        ),
+        (
+            b"func main(system: NodeSystem) async throws {\n  print(v0)\n  await try f()\n}",
+            b"refused P4 3:3\n",
         ),
     ];
     for (source, line) in rows {

@@ -1,0 +1,6 @@
+pub mod Spellings
+pub mod Pushed
+pub mod Numbered
+pub mod Ranked
+pub mod Asked
+pub mod Ranking

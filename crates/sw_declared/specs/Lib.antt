@@ -1,0 +1,6 @@
+-- The words of this crate's contracts.
+pub mod Spelling
+pub mod Names
+pub mod Members
+pub mod Declarations
+pub mod Ranks

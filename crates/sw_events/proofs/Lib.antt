@@ -1,0 +1,4 @@
+pub mod Runs
+pub mod TypeEvents
+pub mod ExprEvents
+pub mod StmtEvents

@@ -1,0 +1,7 @@
+struct Point {
+  var x = 0
+  func move(by: Int) {
+  }
+  func move(by amount: Int) {
+  }
+}

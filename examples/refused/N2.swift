@@ -1,0 +1,4 @@
+func main(system: NodeSystem) async throws {
+  let ratio: Double = 1
+  print(ratio)
+}

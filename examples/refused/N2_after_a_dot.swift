@@ -1,0 +1,4 @@
+actor Cart {
+}
+func pay(cart: Cart.ID) {
+}

@@ -1,0 +1,3 @@
+func main(system: NodeSystem) async throws {
+  print(self)
+}

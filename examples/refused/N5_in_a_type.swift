@@ -1,0 +1,3 @@
+actor Cart {
+  typealias ActorSystem = NodeSystem
+}
