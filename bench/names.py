@@ -18,7 +18,7 @@ not call it. Times want a machine that does nothing else.
 import os
 import sys
 
-from runs import run, script, write
+from runs import measure_unbuilt, run, script, write
 
 RUNS = 9
 GROWTH = 2.2
@@ -71,43 +71,21 @@ def refused_at_end(text):
     return b"refused N3 %d:%d\n" % (line, LAST.index(b"nobody") + 1)
 
 
-def measure(program, folder, name, make, sizes):
-    """Prints a table of one kind, and gives what is wrong."""
-    faults = []
-    made = {size: make(size) for size in sizes}
-    cpus, memories = {size: [] for size in sizes}, {size: [] for size in sizes}
-    path = os.path.join(folder, "source")
-    for _ in range(RUNS):
-        for size in sizes:
-            write(path, made[size])
-            cpu, _, memory, status, out, err = run(program, folder)
-            cpus[size].append(cpu)
-            memories[size].append(memory)
-            if status != 11 or out != b"not built\n" or err:
-                faults.append(f"{size} {name}: status {status}, {out[:60]!r}, {err[:60]!r}")
-    write(path, made[sizes[-1]] + LAST)
+def unknown_at_end(program, folder, name, source):
+    """Tries a source with an unknown name at its end, and gives what is wrong."""
+    write(os.path.join(folder, "source"), source + LAST)
     _, _, _, status, out, _ = run(program, folder)
-    if status != 1 or out != refused_at_end(made[sizes[-1]]):
-        faults.append(f"{sizes[-1]} {name}, with an unknown name: status {status}, {out[:60]!r}")
-    print(f"{name:>11} {'bytes':>9} {'cpu':>10} {'memory':>10} {'growth':>8}   best of {RUNS}")
-    before = None
-    for size in sizes:
-        cpu, memory = min(cpus[size]), max(memories[size])
-        growth = cpu / before if before else 0.0
-        shown = f"{growth:.2f}" if before else ""
-        print(f"{size:>11} {len(made[size]):>9} {cpu * 1000:>7.1f} ms {memory:>7.1f} MB {shown:>8}")
-        before = cpu
-        if growth >= GROWTH:
-            faults.append(f"{size} {name}: {growth:.2f} times the time of {size // 2}, not below {GROWTH}")
-        if memory * 1e6 >= MOST_MEMORY * len(made[size]) and size == sizes[-1]:
-            faults.append(f"{size} {name}: {memory:.1f} MB, not below {MOST_MEMORY} times the source")
-    return faults
+    if status == 1 and out == refused_at_end(source):
+        return []
+    return [f"{name}, with an unknown name: status {status}, {out[:60]!r}"]
 
 
 def measured(program, folder):
     faults = []
     for name, make, sizes in KINDS:
-        faults += measure(program, folder, name, make, sizes)
+        made = {size: make(size) for size in sizes}
+        faults += measure_unbuilt(program, folder, name, made, RUNS, GROWTH, MOST_MEMORY)
+        faults += unknown_at_end(program, folder, name, made[sizes[-1]])
     return faults
 
 

@@ -14,10 +14,9 @@ run takes MOST_MEMORY times the bytes of its source or more; with status 2 where
 not call it. Times want a machine that does nothing else.
 """
 
-import os
 import sys
 
-from runs import GROWTH, run, script, write
+from runs import GROWTH, measure_unbuilt, script
 
 RUNS = 9
 MOST_MEMORY = 40
@@ -70,38 +69,11 @@ KINDS = [
 ]
 
 
-def measure(program, folder, name, make):
-    """Prints a table of one kind, and gives what is wrong."""
-    faults = []
-    made = {size: make(size) for size in SIZES}
-    cpus, memories = {size: [] for size in SIZES}, {size: [] for size in SIZES}
-    for _ in range(RUNS):
-        for size in SIZES:
-            write(os.path.join(folder, "source"), made[size])
-            cpu, _, memory, status, out, err = run(program, folder)
-            cpus[size].append(cpu)
-            memories[size].append(memory)
-            if status != 11 or out != b"not built\n" or err:
-                faults.append(f"{size} {name}: status {status}, {out[:60]!r}, {err[:60]!r}")
-    print(f"{name:>11} {'cpu':>10} {'memory':>10} {'growth':>8}   best of {RUNS}")
-    before = None
-    for size in SIZES:
-        cpu, memory = min(cpus[size]), max(memories[size])
-        growth = cpu / before if before else 0.0
-        shown = f"{growth:.2f}" if before else ""
-        print(f"{size:>11} {cpu * 1000:>7.1f} ms {memory:>7.1f} MB {shown:>8}")
-        before = cpu
-        if growth >= GROWTH:
-            faults.append(f"{size} {name}: {growth:.2f} times the time of {size // 2}, not below {GROWTH}")
-        if memory * 1e6 >= MOST_MEMORY * size and size == SIZES[-1]:
-            faults.append(f"{size} {name}: {memory:.1f} MB, not below {MOST_MEMORY} times the source")
-    return faults
-
-
 def measured(program, folder):
     faults = []
     for name, make in KINDS:
-        faults += measure(program, folder, name, make)
+        made = {size: make(size) for size in SIZES}
+        faults += measure_unbuilt(program, folder, name, made, RUNS, GROWTH, MOST_MEMORY)
     return faults
 
 

@@ -124,6 +124,38 @@ def measure(program, folder, name, make, sizes):
     return faults
 
 
+def measure_unbuilt(program, folder, name, made, runs, growth_limit, most_memory):
+    """Prints a table of one kind of sources that are `not built`, and gives what is wrong.
+
+    `made` has a source for each size, the least size first. At a size, twice that before it, the time is below
+    `growth_limit` times the time before it; at the greatest the memory is below `most_memory` times the bytes of its source.
+    """
+    faults = []
+    cpus, memories = {size: [] for size in made}, {size: [] for size in made}
+    # The sizes take turns, so that a time in which the machine is slow touches all of them.
+    for _ in range(runs):
+        for size, source in made.items():
+            write(os.path.join(folder, "source"), source)
+            cpu, _, memory, status, out, err = run(program, folder)
+            cpus[size].append(cpu)
+            memories[size].append(memory)
+            if status != 11 or out != b"not built\n" or err:
+                faults.append(f"{size} {name}: status {status}, {out[:60]!r}, {err[:60]!r}")
+    print(f"{name:>11} {'bytes':>9} {'cpu':>10} {'memory':>10} {'growth':>8}   best of {runs}")
+    before = None
+    for size, source in made.items():
+        cpu, memory = min(cpus[size]), max(memories[size])
+        growth = cpu / before if before else 0.0
+        shown = f"{growth:.2f}" if before else ""
+        print(f"{size:>11} {len(source):>9} {cpu * 1000:>7.1f} ms {memory:>7.1f} MB {shown:>8}")
+        before = cpu
+        if growth >= growth_limit:
+            faults.append(f"{size} {name}: {growth:.2f} times the time of {size // 2}, not below {growth_limit}")
+        if size == max(made) and memory * 1e6 >= most_memory * len(source):
+            faults.append(f"{size} {name}: {memory:.1f} MB, not below {most_memory} times the source")
+    return faults
+
+
 def limits(program, folder):
     """Tries a source of the greatest size, and one that is a byte longer."""
     faults = []

@@ -1,13 +1,9 @@
 -- The funcs of declarations, as they are numbered.
 use Rattle.std.proofs.Common.{◌≡◌, ℕ, ◌+◌, ◌<◌, ◌≤◌, List, ◌∷◌, ◌++◌, drop, length, get_or, sym, ap, ◌∙◌, append_assoc}
-use Rattle.std.specs.List.{flat_map}
 use Rattle.std.proofs.lemmas.List.{drop_more, drop_all}
 use Rattle.sw_tree.specs.declared.decl.Decl.{Decl}
-use Rattle.sw_declared.specs.declared.names.DeclaredType.{DeclaredType}
-use Rattle.sw_declared.specs.declared.names.Alias.{Alias}
 use Rattle.sw_declared.specs.declared.names.DeclaredFunc.{DeclaredFunc}
-use Rattle.sw_declared.specs.declared.names.Names.{Names}
-use Rattle.sw_declared.specs.Declarations.{aliases_in, count_types, funcs_in, funcs_from, types_in}
+use Rattle.sw_declared.specs.Declarations.{count_types, funcs_in, funcs_from}
 use Rattle.sw_declared.proofs.Pushed.{append_nil}
 
 pub funcs_step : (n n1 : ℕ) (out out1 all : List DeclaredFunc) (decls : List Decl) (i : ℕ) (x : Decl) → i < length decls → x ≡ get_or decls i x → n1 ≡ n + count_types x
@@ -22,11 +18,3 @@ funcs_step n n1 out out1 all decls i x h e p k q =
 pub funcs_end : (n : ℕ) (out all : List DeclaredFunc) (decls : List Decl) (i : ℕ) → length decls ≤ i → out ++ funcs_from n (drop i decls) ≡ all → out ≡ all
 unfolding funcs_from
 funcs_end n out all decls i h k = sym (append_nil out) ∙ sym (ap (λ l. out ++ funcs_from n l) (drop_all i decls h)) ∙ k
-
-abbrev pub names_of : List DeclaredType → List Alias → List DeclaredFunc → Names
-names_of types aliases funcs = record { types = types; aliases = aliases; funcs = funcs }
-
-pub named : (types : List DeclaredType) (aliases : List Alias) (funcs : List DeclaredFunc) (decls : List Decl) → types ≡ flat_map types_in decls → aliases ≡ flat_map aliases_in decls → funcs ≡ funcs_from 1 decls
-    → names_of types aliases funcs ≡ names_of (flat_map types_in decls) (flat_map aliases_in decls) (funcs_from 1 decls)
-named types aliases funcs decls t a f =
-    ap (λ x. names_of x aliases funcs) t ∙ ap (λ x. names_of (flat_map types_in decls) x funcs) a ∙ ap (names_of (flat_map types_in decls) (flat_map aliases_in decls)) f

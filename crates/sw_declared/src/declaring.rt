@@ -1,7 +1,8 @@
 //! The tables of all that a source declares.
 
 ghost use Rattle.std.specs.Prelude.{◌≡◌, ◌++◌, IfOk, OnOk};
-ghost use Rattle.sw_declared.specs.Declarations.{aliases_in, count_types, declarations, declared_type, types_in};
+ghost use Rattle.std.specs.List.{flat_map};
+ghost use Rattle.sw_declared.specs.Declarations.{aliases_in, count_types, declarations, declared_type, funcs_from, funcs_in, types_in};
 
 use crate::funcs::push_funcs;
 use crate::labels::is_distributed;
@@ -73,26 +74,46 @@ fn count_types(decl: &Decl) -> u32
     }
 }
 
-/// All that a source declares. The only error is want of memory, or of numbers for its types.
-pub fn declare(alloc: Global, tree: &Tree) -> Result<Names, NoMemory>
-    ensures { IfOk result (λ names. names ≡ declarations tree.now) }
+/// Adds all that a declaration declares; its type, if it declares one, has this number.
+fn push_decl(alloc: Global, names: &mut Names, number: TypeNo, decl: &Decl) -> Result<(), NoMemory>
+    ensures types { OnOk result (names.new.types ≡ names.old.types ++ types_in decl.now) }
+    ensures aliases { OnOk result (names.new.aliases ≡ names.old.aliases ++ aliases_in decl.now) }
+    ensures funcs { OnOk result (names.new.funcs ≡ names.old.funcs ++ funcs_in number decl.now) }
 {
-    let mut types = Types::new(alloc);
-    let mut aliases = Aliases::new(alloc);
-    let mut funcs = Funcs::new(alloc);
+    push_type(alloc, &mut names.types, decl)?;
+    push_alias(&mut names.aliases, decl)?;
+    push_funcs(alloc, &mut names.funcs, number, decl)
+}
+
+/// Adds all that declarations declare, of which the first type has the number 1.
+fn push_decls(alloc: Global, names: &mut Names, decls: &[Decl]) -> Result<(), NoMemory>
+    ensures types { OnOk result (names.new.types ≡ names.old.types ++ flat_map types_in decls.now) }
+    ensures aliases { OnOk result (names.new.aliases ≡ names.old.aliases ++ flat_map aliases_in decls.now) }
+    ensures funcs { OnOk result (names.new.funcs ≡ names.old.funcs ++ funcs_from 1 decls.now) }
+{
     let mut number: u32 = 1;
-    for decl in tree.decls.as_slice() {
-        push_type(alloc, &mut types, decl)?;
-        push_alias(&mut aliases, decl)?;
-        push_funcs(alloc, &mut funcs, TypeNo(number), decl)?;
+    for decl in decls {
+        push_decl(alloc, names, TypeNo(number), decl)?;
         let Some(next) = number.checked_add(count_types(decl)) else {
             return Err(NoMemory);
         };
         number = next;
     }
-    Ok(Names {
-        types,
-        aliases,
-        funcs,
-    })
+    Ok(())
+}
+
+/// All that a source declares. The only error is want of memory, or of numbers for its types.
+pub fn declare(alloc: Global, tree: &Tree) -> Result<Names, NoMemory>
+    ensures { IfOk result (λ names. names ≡ declarations tree.now) }
+{
+    let mut names = Names {
+        types: Types::new(alloc),
+        aliases: Aliases::new(alloc),
+        funcs: Funcs::new(alloc),
+    };
+    // no `?`, since each way out with the tables alive costs the proof
+    match push_decls(alloc, &mut names, tree.decls.as_slice()) {
+        Ok(()) => Ok(names),
+        Err(NoMemory) => Err(NoMemory),
+    }
 }

@@ -170,21 +170,31 @@ fn push_items(alloc: Global, own: &mut Members, items: &[EnumItem]) -> Result<()
     Ok(())
 }
 
+/// Adds the members that a body in a declaration sees without a `.`.
+fn push_members_in(alloc: Global, own: &mut Members, decl: &Decl) -> Result<(), NoMemory>
+    ensures { OnOk result (own.new ≡ own.old ++ members_in decl.now) }
+{
+    match decl {
+        Decl::Struct(_, members) => push_members(alloc, own, members.as_slice()),
+        Decl::Enum(_, items) => push_items(alloc, own, items.as_slice()),
+        Decl::Actor(heading, members) => {
+            if is_distributed(heading) {
+                push_distributed(alloc, own)?;
+            }
+            push_members(alloc, own, members.as_slice())
+        }
+        _ => Ok(()),
+    }
+}
+
 /// The members that a body in a declaration sees without a `.`. The only error is want of memory.
 pub fn members_in(alloc: Global, decl: &Decl) -> Result<Members, NoMemory>
     ensures { IfOk result (λ own. own ≡ members_in decl.now) }
 {
     let mut own = Members::new(alloc);
-    match decl {
-        Decl::Struct(_, members) => push_members(alloc, &mut own, members.as_slice())?,
-        Decl::Enum(_, items) => push_items(alloc, &mut own, items.as_slice())?,
-        Decl::Actor(heading, members) => {
-            if is_distributed(heading) {
-                push_distributed(alloc, &mut own)?;
-            }
-            push_members(alloc, &mut own, members.as_slice())?;
-        }
-        _ => {}
+    // no `?`, since each way out with the table alive costs the proof
+    match push_members_in(alloc, &mut own, decl) {
+        Ok(()) => Ok(own),
+        Err(NoMemory) => Err(NoMemory),
     }
-    Ok(own)
 }

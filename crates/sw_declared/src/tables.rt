@@ -1,7 +1,9 @@
 //! The types, aliases and funcs of a source, found by name.
 
-ghost use Rattle.std.specs.Prelude.{◌≡◌, [], ◌∷◌, ◌++◌, OnOk, OnErr};
+ghost use Rattle.std.specs.Prelude.{◌≡◌, List, ℕ, [], ◌∷◌, ◌++◌, nat_lt, true, IfOk, OnOk, OnErr};
+ghost use Rattle.sw_sight.specs.Levels.{level, IsKnown};
 ghost use Rattle.sw_declared.specs.Names.{has_type, number_of, has_type_inner, has_alias, has_alias_inner, has_func};
+ghost use Rattle.sw_declared.specs.Ranks.{actor_rank};
 
 use crate::names::{Alias, DeclaredFunc, DeclaredType};
 use crate::ranks::{
@@ -9,7 +11,7 @@ use crate::ranks::{
 };
 use std::alloc::Global;
 use std::marker::Model;
-use sw_base::{Duplicate, Items, NoMemory};
+use sw_base::{Duplicate, Items, NoMemory, Text};
 use sw_sight::Levels;
 
 /// The types of a source, of which contracts see the list. Each question is one hashed look-up.
@@ -33,6 +35,25 @@ impl Model for Types {
     ghost view = { λ table. table.items };
 
     ghost invariant = { λ table. AreTypesRanked table.items table.numbers table.actors };
+}
+
+/// Sees to it that there is room for what is told of a type, and copies its name. What is told stays, also where
+/// memory is wanted.
+fn prepare_type(
+    numbers: &mut Levels,
+    actors: &mut Levels,
+    item: &DeclaredType,
+) -> Result<Text, NoMemory>
+    ensures name { IfOk result (λ name. name ≡ item.now.name) }
+    ensures numbered { OnOk result (IsKnown item.now.name numbers.new) }
+    ensures ranked { OnOk result (nat_lt 0 (actor_rank item.now.form) ≡ true → IsKnown item.now.name actors.new) }
+    ensures numbers { (x : List ℕ) → level x numbers.new ≡ level x numbers.old }
+    ensures actors { (x : List ℕ) → level x actors.new ≡ level x actors.old }
+{
+    let name = item.name.copy()?;
+    numbers.add(name.as_bytes())?;
+    prepare(actors, name.as_bytes(), actor_rank(item.form))?;
+    Ok(name)
 }
 
 impl Types {
@@ -59,17 +80,19 @@ impl Types {
         ensures ok { OnOk result (self.new ≡ self.old ++ item ∷ []) }
         ensures err { OnErr result (self.new ≡ self.old) }
     {
-        let text = item.name.copy()?;
-        let by_actor = actor_rank(item.form);
-        let name = text.as_bytes();
         // what can fail comes first, and tells nothing yet
-        self.numbers.add(name)?;
-        prepare(&mut self.actors, name, by_actor)?;
-        self.items.push(item)?;
-        let number = self.items.len();
-        keep_first(&mut self.numbers, name, number);
-        raise(&mut self.actors, name, by_actor);
-        Ok(())
+        match prepare_type(&mut self.numbers, &mut self.actors, &item) {
+            Ok(text) => {
+                let by_actor = actor_rank(item.form);
+                let name = text.as_bytes();
+                self.items.push(item)?;
+                let number = self.items.len();
+                keep_first(&mut self.numbers, name, number);
+                raise(&mut self.actors, name, by_actor);
+                Ok(())
+            }
+            Err(NoMemory) => Err(NoMemory),
+        }
     }
 
     /// The number of the first type that has the name, from 1; 0 where none has it.

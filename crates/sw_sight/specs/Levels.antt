@@ -1,4 +1,4 @@
--- Numbers kept by name. No public clause cites this module.
+-- Numbers kept by name. The contracts of `Levels` cite this module.
 use Rattle.std.specs.Prelude.{◌≡◌, ℕ, Bool, List, map, Option, None, Some, is_some, true}
 use Rattle.std.specs.Option.{unwrap_or}
 use Rattle.std.specs.Map.{lookup}

@@ -1,27 +1,24 @@
-//! Rows that were written from the rules of the language alone, by somebody who saw neither the definitions nor the code.
+//! Rows that were written from the rules of the language alone: those of tokens and the grammar by somebody who saw neither
+//! the definitions nor the code, those of names before the program was run on them.
 
+mod names;
 mod rows;
 
 use crate::tests::{Files, PLAN, RUN, answer, call_over};
+use names::NAMED;
 use rows::{BODIES, SOURCES};
 use std::alloc::Global;
 use std::test::Fail;
 use sw_base::Text;
 use test_rows::check_rows;
 
-/// The rule of tokens or of the grammar that a source breaks first, and its place, as the rows write them; `none` where it
-/// breaks none. Nobody who wrote a row cared for names, so that a rule of names counts as none.
-fn source_answer(alloc: Global, source: &[u8]) -> Result<Text, Fail> {
+/// The rule that a source breaks first, and its place, as the rows write them; `named` where it breaks none that a pass
+/// looks for.
+fn first_answer(alloc: Global, source: &[u8]) -> Result<Text, Fail> {
     let files: Files = &[(b"file", source), (b"plan", PLAN)];
     let (code, sink) = answer(alloc, call_over(RUN, files))?;
-    let taken = sink.taken();
-    if code == 11 && taken == b"not built\n".as_slice() {
-        return Ok(Text::from_bytes(alloc, b"none")?);
-    }
-    if code == 1 && taken.starts_with(b"refused N".as_slice()) {
-        return Ok(Text::from_bytes(alloc, b"none")?);
-    }
-    match (code, taken) {
+    match (code, sink.taken()) {
+        (11, b"not built\n") => Ok(Text::from_bytes(alloc, b"named")?),
         (
             1,
             [
@@ -37,7 +34,17 @@ fn source_answer(alloc: Global, source: &[u8]) -> Result<Text, Fail> {
                 b'\n',
             ],
         ) => { Ok(Text::from_bytes(alloc, what)?) }
-        _ => Ok(Text::from_bytes(alloc, taken)?),
+        (_, taken) => Ok(Text::from_bytes(alloc, taken)?),
+    }
+}
+
+/// The rule of tokens or of the grammar that a source breaks first, and its place; `none` where it breaks none. Nobody who
+/// wrote a row of these cared for names, so that a rule of names counts as none.
+fn source_answer(alloc: Global, source: &[u8]) -> Result<Text, Fail> {
+    let found = first_answer(alloc, source)?;
+    match found.as_bytes() {
+        b"named" | [b'N', ..] => Ok(Text::from_bytes(alloc, b"none")?),
+        _ => Ok(found),
     }
 }
 
@@ -62,5 +69,13 @@ fn each_source_is_answered(rt: HostRuntime) -> Result<(), Fail> {
     let (right, wrong) = check_rows(rt.alloc(), SOURCES, source_answer)?;
     assert_eq!(rt; wrong, None);
     assert_eq!(rt; right, 202);
+    Ok(())
+}
+
+#[test]
+fn each_name_is_answered(rt: HostRuntime) -> Result<(), Fail> {
+    let (right, wrong) = check_rows(rt.alloc(), NAMED, first_answer)?;
+    assert_eq!(rt; wrong, None);
+    assert_eq!(rt; right, 135);
     Ok(())
 }

@@ -1,0 +1,4 @@
+pub mod Words
+pub mod Keyed
+pub mod Places
+pub mod Kept
