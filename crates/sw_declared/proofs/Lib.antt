@@ -3,4 +3,5 @@ pub mod Pushed
 pub mod Numbered
 pub mod Ranked
 pub mod Asked
-pub mod Ranking
+pub mod Kept
+pub mod Sought

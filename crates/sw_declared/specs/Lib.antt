@@ -4,3 +4,4 @@ pub mod Names
 pub mod Members
 pub mod Declarations
 pub mod Ranks
+pub mod Facts

@@ -1,22 +1,19 @@
 -- Numbers by name that tell of the items of a table. No public clause cites this module.
-use Rattle.std.specs.Prelude.{◌≡◌, ℕ, Bool, true, false, ◌||◌, ◌&&◌, Some, None, List, [], nat_lt}
+use Rattle.std.specs.Prelude.{◌≡◌, ℕ, Bool, true, false, ◌&&◌, Some, None, List, [], nat_lt}
 use Rattle.std.specs.List.{list_any}
 use Rattle.sw_sight.specs.InSight.{Text, same}
-use Rattle.sw_sight.specs.Levels.{Entries, level, IsKnown}
+use Rattle.sw_sight.specs.Levels.{Entries, level}
 use Rattle.sw_declared.specs.declared.names.Inner.{Inner}
 use Rattle.sw_declared.specs.declared.names.Inner.TheVariants.{Nothing, Id, ActorId}
 use Rattle.sw_declared.specs.declared.names.Form.{Form}
 use Rattle.sw_declared.specs.declared.names.Form.TheVariants.{Struct, Enum, Protocol, Actor, DistributedActor}
 use Rattle.sw_declared.specs.declared.names.MemberKind.{MemberKind}
 use Rattle.sw_declared.specs.declared.names.MemberKind.TheVariants as kind
-use Rattle.sw_declared.specs.declared.names.Member.{Member}
 use Rattle.sw_declared.specs.declared.names.FuncKind.{FuncKind}
 use Rattle.sw_declared.specs.declared.names.FuncKind.TheVariants.{TopLevel, Method, Getter, Initializer, Synthesized}
 use Rattle.sw_declared.specs.declared.names.DeclaredType.{DeclaredType}
 use Rattle.sw_declared.specs.declared.names.Alias.{Alias}
 use Rattle.sw_declared.specs.declared.names.DeclaredFunc.{DeclaredFunc}
-use Rattle.sw_declared.specs.declared.member_levels.MemberLevels.{MemberLevels}
-use Rattle.sw_declared.specs.declared.member_levels.MemberRanks.{MemberRanks}
 use Rattle.sw_declared.specs.Names.{number_of}
 use Rattle.sw_declared.specs.Members.{Called}
 use Rattle.sw_declared.specs.Spelling.{spelled}
@@ -88,52 +85,6 @@ func_rank Initializer = 0
 func_rank Synthesized = 0
 
 -- ---- the tables
-
--- of members: by name what there is, what is not called, what names a type, and after what `ID` may stand; by key what is
--- called
-pub record AreMembersRanked (items : List Member) (levels : MemberLevels) : Type 0 where
-  pub named : IsRanked (λ m. m.name) (λ m. static_rank m.is_static) items levels.named
-  pub plain : IsRanked (λ m. m.name) (λ m. plain_rank m.labels m.is_static) items levels.plain
-  pub types : IsRanked (λ m. m.name) (λ m. type_rank m.kind) items levels.types
-  pub ids : IsRanked (λ m. m.name) (λ m. type_id_rank m.kind) items levels.ids
-  pub called : IsRanked (λ m. call_key m.name m.labels) (λ m. call_rank m.labels m.is_static) items levels.called
-
--- the ranks of a member in these
-unfoldable pub ranks_of : Member → MemberRanks
-ranks_of m = record {
-  named = static_rank m.is_static;
-  plain = plain_rank m.labels m.is_static;
-  types = type_rank m.kind;
-  ids = type_id_rank m.kind;
-  called = call_rank m.labels m.is_static;
-}
-
--- a number is kept of a name and a key in each table in which the ranks are not 0
-pub record ArePrepared (name key : Text) (ranks : MemberRanks) (levels : MemberLevels) : Type 0 where
-  pub named : nat_lt 0 ranks.named ≡ true → IsKnown name levels.named
-  pub plain : nat_lt 0 ranks.plain ≡ true → IsKnown name levels.plain
-  pub types : nat_lt 0 ranks.types ≡ true → IsKnown name levels.types
-  pub ids : nat_lt 0 ranks.ids ≡ true → IsKnown name levels.ids
-  pub called : nat_lt 0 ranks.called ≡ true → IsKnown key levels.called
-
--- both tell the same
-pub record TellTheSame (old new : MemberLevels) : Type 0 where
-  pub named : (x : Text) → level x new.named ≡ level x old.named
-  pub plain : (x : Text) → level x new.plain ≡ level x old.plain
-  pub types : (x : Text) → level x new.types ≡ level x old.types
-  pub ids : (x : Text) → level x new.ids ≡ level x old.ids
-  pub called : (x : Text) → level x new.called ≡ level x old.called
-
--- a table is told a rank of a name
-abbrev pub IsTold : Text → ℕ → Entries → Entries → Type 0
-IsTold name rank old new = (x : Text) (n : ℕ) → nat_lt n (level x new) ≡ (nat_lt n (level x old) || (same x name && nat_lt n rank))
-
-pub record AreTold (name key : Text) (ranks : MemberRanks) (old new : MemberLevels) : Type 0 where
-  pub named : IsTold name ranks.named old.named new.named
-  pub plain : IsTold name ranks.plain old.plain new.plain
-  pub types : IsTold name ranks.types old.types new.types
-  pub ids : IsTold name ranks.ids old.ids new.ids
-  pub called : IsTold key ranks.called old.called new.called
 
 -- of types: their numbers, and which are distributed actors
 pub record AreTypesRanked (items : List DeclaredType) (by_name by_actor : Entries) : Type 0 where

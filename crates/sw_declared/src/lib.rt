@@ -2,15 +2,17 @@
 #![tactic(auto)]
 
 mod declaring;
+mod facts;
+mod few;
 mod funcs;
 mod labels;
-mod member_levels;
 mod member_table;
 mod names;
 mod own;
 mod ranks;
 mod spelling;
 mod tables;
+mod told;
 mod words;
 
 pub use declaring::declare;

@@ -1,25 +1,32 @@
 //! The members of a type, found by name.
 
 ghost use Rattle.std.specs.Prelude.{◌≡◌, [], ◌∷◌, ◌++◌, OnOk, OnErr, IfOk};
+ghost use Rattle.std.specs.List.{list_any};
 ghost use Rattle.std.specs.Option.{option_copied, option_map};
 ghost use Rattle.sw_declared.specs.Members.{has_member, has_static, has_type_member, has_inner_member, has_fitting, has_static_fitting};
 ghost use Rattle.sw_declared.specs.Declarations.{argument_labels};
+ghost use Rattle.sw_declared.specs.Facts.{is_above, is_call_above};
+ghost use Rattle.sw_declared.specs.Spelling.{spelled};
 
-use crate::member_levels::{MemberLevels, ranks_of};
+use crate::facts::{Question, call_key, facts_of, name_key};
+use crate::few::{FEW, any_above, any_call_above, first_few};
 use crate::names::Member;
-use crate::ranks::{call_key, is_inner};
-use crate::spelling::spelled_call;
+use crate::ranks::is_inner;
+use crate::told::{prepare_facts, raise_facts};
 use std::alloc::Global;
 use std::marker::Model;
-use sw_base::{Duplicate, Items, NoMemory};
+use sw_base::{Items, NoMemory};
+use sw_sight::Levels;
 use sw_tree::Argument;
 
-/// The members of a type, of which contracts see the list. Each question is one hashed look-up.
+/// The members of a type, of which contracts see the list. For each question the first few are looked through, and of
+/// the others it is one hashed look-up; only where there is no memory for the key of a long name are all looked through.
 #[derive(Drop)]
 pub struct Members {
     alloc: Global,
     items: Items<Member>,
-    levels: MemberLevels,
+    /// By key: the greatest rank that is told of the members after the first few.
+    told: Levels,
 }
 
 impl Model for Members {
@@ -28,11 +35,12 @@ impl Model for Members {
 
     ghost Value = { List Member };
 
-    ghost use Rattle.sw_declared.specs.Ranks.{AreMembersRanked};
+    ghost use Rattle.std.specs.Prelude.{drop};
+    ghost use Rattle.sw_declared.specs.Facts.{few, AreTold};
 
     ghost view = { λ table. table.items };
 
-    ghost invariant = { λ table. AreMembersRanked table.items table.levels };
+    ghost invariant = { λ table. AreTold (drop few table.items) table.told };
 }
 
 impl Members {
@@ -43,7 +51,7 @@ impl Members {
         Members {
             alloc,
             items: Items::new(alloc),
-            levels: MemberLevels::new(alloc),
+            told: Levels::new(alloc),
         }
     }
 
@@ -59,15 +67,14 @@ impl Members {
         ensures ok { OnOk result (self.new ≡ self.old ++ item ∷ []) }
         ensures err { OnErr result (self.new ≡ self.old) }
     {
-        let text = item.name.copy()?;
-        let key = call_key(self.alloc, &item)?;
-        let ranks = ranks_of(&item);
-        let name = text.as_bytes();
-        let call = key.as_slice();
+        if self.items.len() < FEW {
+            return self.items.push(item);
+        }
+        let facts = facts_of(self.alloc, &item)?;
         // what can fail comes first, and tells nothing yet
-        self.levels.prepare(name, call, ranks)?;
+        prepare_facts(&mut self.told, facts.as_slice())?;
         self.items.push(item)?;
-        self.levels.raise(name, call, ranks);
+        raise_facts(&mut self.told, facts.as_slice());
         Ok(())
     }
 
@@ -75,21 +82,21 @@ impl Members {
     pub fn has(&self, name: &[u8]) -> bool
         ensures { result ≡ has_member self.now name.now }
     {
-        self.levels.named.get(name) > 0
+        self.tells(Question::Named, name, 0)
     }
 
     /// Tells whether a static member has the name.
     pub fn has_static(&self, name: &[u8]) -> bool
         ensures { result ≡ has_static self.now name.now }
     {
-        self.levels.named.get(name) > 1
+        self.tells(Question::Named, name, 1)
     }
 
     /// Tells whether a member that names a type has the name.
     pub fn has_type(&self, name: &[u8]) -> bool
         ensures { result ≡ has_type_member self.now name.now }
     {
-        self.levels.types.get(name) > 0
+        self.tells(Question::Aliased, name, 0)
     }
 
     /// Tells whether a member has the name, after which the type `inner` may stand.
@@ -97,8 +104,8 @@ impl Members {
         ensures { result ≡ has_inner_member self.now name.now inner.now }
     {
         is_inner(
-            self.levels.ids.get(name),
-            self.levels.types.get(name),
+            self.tells(Question::IdAliased, name, 0),
+            self.tells(Question::Aliased, name, 1),
             inner,
         )
     }
@@ -109,11 +116,8 @@ impl Members {
         ensures { IfOk result (λ found. found ≡ has_fitting self.now name.now (option_map argument_labels (option_copied called.entry))) }
     {
         match called {
-            None => Ok(self.levels.plain.get(name) > 0),
-            Some(arguments) => {
-                let key = spelled_call(self.alloc, name, arguments)?;
-                Ok(self.levels.called.get(key.as_slice()) > 0)
-            }
+            None => Ok(self.tells(Question::Plain, name, 0)),
+            Some(arguments) => self.tells_call(name, arguments, 0),
         }
     }
 
@@ -127,11 +131,47 @@ impl Members {
         ensures { IfOk result (λ found. found ≡ has_static_fitting self.now name.now (option_map argument_labels (option_copied called.entry))) }
     {
         match called {
-            None => Ok(self.levels.plain.get(name) > 1),
-            Some(arguments) => {
-                let key = spelled_call(self.alloc, name, arguments)?;
-                Ok(self.levels.called.get(key.as_slice()) > 1)
-            }
+            None => Ok(self.tells(Question::Plain, name, 1)),
+            Some(arguments) => self.tells_call(name, arguments, 1),
         }
+    }
+
+    /// Tells whether a member has the name, with a rank above the number.
+    fn tells(&self, question: Question, name: &[u8], number: usize) -> bool
+        ensures { result ≡ list_any (is_above question name.now number) self.now }
+    {
+        let items = self.items.as_slice();
+        if any_above(first_few(items), question, name, number) {
+            return true;
+        }
+        if items.len() <= FEW {
+            return false;
+        }
+        match name_key(self.alloc, question, name) {
+            Ok(key) => self.told.get(key.as_bytes()) > number,
+            // only the key of a long name needs memory
+            Err(NoMemory) => any_above(items, question, name, number),
+        }
+    }
+
+    /// Tells whether a member has the name and is called with the labels of these arguments, with a rank above the
+    /// number. The only error is want of memory.
+    fn tells_call(
+        &self,
+        name: &[u8],
+        arguments: &[Argument],
+        number: usize,
+    ) -> Result<bool, NoMemory>
+        ensures { IfOk result (λ found. found ≡ list_any (is_call_above (spelled name.now (argument_labels arguments.now)) number) self.now) }
+    {
+        let items = self.items.as_slice();
+        if any_call_above(first_few(items), name, arguments, number) {
+            return Ok(true);
+        }
+        if items.len() <= FEW {
+            return Ok(false);
+        }
+        let key = call_key(self.alloc, name, arguments)?;
+        Ok(self.told.get(key.as_bytes()) > number)
     }
 }

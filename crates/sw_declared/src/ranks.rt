@@ -1,14 +1,12 @@
 //! Numbers by name that tell of the items of a table.
 
-ghost use Rattle.std.specs.Prelude.{◌≡◌, ◌||◌, ◌&&◌, List, ℕ, true, codes, cond, nat_eq, nat_lt, IfOk, OnOk};
+ghost use Rattle.std.specs.Prelude.{◌≡◌, ◌||◌, ◌&&◌, List, ℕ, true, codes, cond, nat_eq, nat_lt, OnOk};
 ghost use Rattle.sw_sight.specs.InSight.{same};
 ghost use Rattle.sw_sight.specs.Levels.{level, IsKnown};
-ghost use Rattle.sw_declared.specs.Ranks.{actor_rank, alias_rank, call_key, call_rank, func_rank, id_rank, plain_rank, static_rank, type_id_rank, type_rank};
+ghost use Rattle.sw_declared.specs.Ranks.{actor_rank, alias_rank, func_rank, id_rank, plain_rank, static_rank, type_id_rank, type_rank};
 
 use crate::names::{Form, FuncKind, Inner, Member, MemberKind};
-use crate::spelling::spelled;
 use crate::words::same;
-use std::alloc::Global;
 use sw_base::NoMemory;
 use sw_sight::Levels;
 
@@ -25,7 +23,8 @@ pub(crate) fn prepare(levels: &mut Levels, name: &[u8], rank: usize) -> Result<(
 
 /// Raises the number of a name to the rank, where it is less.
 pub(crate) fn raise(levels: &mut Levels, name: &[u8], rank: usize)
-    ensures { (nat_lt 0 rank ≡ true → IsKnown name.now levels.old) → (x : List ℕ) (n : ℕ) → nat_lt n (level x levels.new) ≡ (nat_lt n (level x levels.old) || (same x name.now && nat_lt n rank)) }
+    ensures levels { (nat_lt 0 rank ≡ true → IsKnown name.now levels.old) → (x : List ℕ) (n : ℕ) → nat_lt n (level x levels.new) ≡ (nat_lt n (level x levels.old) || (same x name.now && nat_lt n rank)) }
+    ensures keeps { (x : List ℕ) → IsKnown x levels.old → IsKnown x levels.new }
 {
     if levels.get(name) < rank {
         levels.set(name, rank);
@@ -48,18 +47,11 @@ pub(crate) fn is_id(by_id: usize, inner: &[u8]) -> bool
     same(b"ID", inner) && by_id > 0
 }
 
-/// Tells whether the type `ActorID` is meant, and may stand there by the rank.
-pub(crate) fn is_actor_id(by_type: usize, inner: &[u8]) -> bool
-    ensures { result ≡ (same (codes "ActorID") inner.now && nat_lt 1 by_type) }
+/// Tells whether the type that is meant may stand after an alias, where `ID` may, or `ActorID`.
+pub(crate) fn is_inner(by_id: bool, by_actor_id: bool, inner: &[u8]) -> bool
+    ensures { result ≡ ((same (codes "ID") inner.now && by_id) || (same (codes "ActorID") inner.now && by_actor_id)) }
 {
-    same(b"ActorID", inner) && by_type > 1
-}
-
-/// Tells whether the type that is meant may stand after an alias of these ranks.
-pub(crate) fn is_inner(by_id: usize, by_type: usize, inner: &[u8]) -> bool
-    ensures { result ≡ ((same (codes "ID") inner.now && nat_lt 0 by_id) || (same (codes "ActorID") inner.now && nat_lt 1 by_type)) }
-{
-    is_id(by_id, inner) || is_actor_id(by_type, inner)
+    (same(b"ID", inner) && by_id) || (same(b"ActorID", inner) && by_actor_id)
 }
 
 #[tactic(auto, unfolding(crate::specs::Ranks::static_rank))]
@@ -118,27 +110,6 @@ pub(crate) fn plain_rank(member: &Member) -> usize
     match &member.labels {
         None => static_rank(member.is_static),
         Some(_) => 0,
-    }
-}
-
-#[tactic(auto, unfolding(crate::specs::Ranks::call_rank))]
-pub(crate) fn call_rank(member: &Member) -> usize
-    ensures { result ≡ call_rank member.now.labels member.now.is_static }
-{
-    match &member.labels {
-        None => 0,
-        Some(_) => static_rank(member.is_static),
-    }
-}
-
-/// The spelling of the name and the labels of a member that is called; of another it is empty.
-#[tactic(auto, unfolding(crate::specs::Ranks::call_key))]
-pub(crate) fn call_key(alloc: Global, member: &Member) -> Result<Vec<u8>, NoMemory>
-    ensures { IfOk result (λ key. key.items ≡ call_key member.now.name member.now.labels) }
-{
-    match &member.labels {
-        None => Ok(Vec::new(alloc)),
-        Some(labels) => spelled(alloc, member.name.as_bytes(), labels.as_slice()),
     }
 }
 

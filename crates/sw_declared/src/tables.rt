@@ -189,7 +189,7 @@ impl Aliases {
     pub fn has_inner(&self, name: &[u8], inner: &[u8]) -> bool
         ensures { result ≡ has_alias_inner self.now name.now inner.now }
     {
-        is_inner(self.ids.get(name), self.named.get(name), inner)
+        is_inner(self.ids.get(name) > 0, self.named.get(name) > 1, inner)
     }
 }
 

@@ -1,7 +1,8 @@
-use Rattle.std.proofs.Common.{ap, ◌∙◌, nat_lt}
-use Rattle.sw_declared.specs.Members.{has_static}
+use Rattle.std.proofs.Common.{◌∙◌}
+use Rattle.sw_declared.specs.Facts.{rank_of}
 use Rattle.sw_declared.proofs.Asked.{asked_static}
 use Rattle.sw_declared.proofs.member_table.Members.has_static.Goals as goal
 
 pub returns : goal.returns
-returns c = ap (nat_lt 1) c.get.ensures ∙ c.self.invariant.named c.args.name.now 1 ∙ asked_static c.self.inside.items c.args.name.now ∙ ap (λ l. has_static l c.args.name.now) c.self.view_is
+unfolding rank_of
+returns c = c.tells.ensures ∙ asked_static c.args.self.now c.args.name.now

@@ -1,9 +1,10 @@
-use Rattle.std.proofs.Common.{◌∙◌}
-use Rattle.sw_declared.proofs.Ranking.{one_member_more}
+use Rattle.std.proofs.Common.{◌≤◌, ◌∙◌, subst, sym}
+use Rattle.sw_declared.specs.Facts.{few, AreKnown}
+use Rattle.sw_declared.proofs.Kept.{told_more}
 use Rattle.sw_declared.proofs.member_table.Members.push.Goals as goal
 
 pub invariant_of-self-2 : goal.invariant_of-self-2
 invariant_of-self-2 c =
-    one_member_more c.self.inside.items c.push.new.self c.args.item c.as_bytes-name.result.now c.as_slice-call.result.now c.ranks_of-ranks.result
-    c.self.inside.levels c.prepare.new.self c.raise.new.self c.in_ok-push.ensures.ok (c.as_bytes-name.ensures ∙ c.in_ok-text.ensures) (c.as_slice-call.ensures.value ∙ c.in_ok-key.ensures)
-    c.ranks_of-ranks.ensures c.prepare.ensures.same (c.raise.ensures c.in_ok-prepare.ensures.known) c.self.invariant
+    let known = subst (λ fs. AreKnown fs c.prepare_facts.new.told) (c.as_slice.ensures ∙ sym c.as_slice-2.ensures) c.in_ok-prepare_facts.ensures.known in
+    told_more c.self.inside.items c.push-2.new.self few c.args.item c.as_slice-2.result.now c.self.inside.told c.prepare_facts.new.told c.raise_facts.new.told (subst (λ n. few ≤ n) c.len.ensures c.if-len-lt-FEW.false)
+    c.in_ok-push.ensures.ok (c.as_slice-2.ensures ∙ c.in_ok-facts.ensures) c.prepare_facts.ensures.levels (c.raise_facts.ensures known) c.self.invariant

@@ -22,5 +22,5 @@ invariant_of-self-in-Ok c =
       numbers = numbers_more items c.push.new.self c.args.item c.self.inside.numbers numbers c.keep_first.new.levels name c.len-number.result
           more ready.numbers named c.len-number.ensures (c.keep_first.ensures numbered) i.numbers;
       actors = ranked_more (λ t. t.name) (λ t. actor_rank t.form) items c.push.new.self c.self.inside.actors actors c.raise.new.levels c.args.item name c.actor_rank-by_actor.result
-          more ready.actors named c.actor_rank-by_actor.ensures (c.raise.ensures ranked) i.actors;
+          more ready.actors named c.actor_rank-by_actor.ensures (c.raise.ensures.levels ranked) i.actors;
     }
