@@ -5,6 +5,8 @@
 #![tactic(auto)]
 
 #[cfg(test)]
+mod expressions;
+#[cfg(test)]
 mod graph;
 #[cfg(test)]
 mod sharing;
@@ -12,3 +14,5 @@ mod sharing;
 mod tables;
 #[cfg(test)]
 mod values;
+#[cfg(test)]
+mod world;
