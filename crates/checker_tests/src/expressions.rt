@@ -153,16 +153,16 @@ fn with_names(
     }
 }
 
-fn with_facts(alloc: Global, asked: &Asked, tree: &Tree, known: &Facts) -> Result<Text, Fail> {
-    match declare(alloc, tree) {
-        Ok(names) => with_names(alloc, asked, tree, known, &names),
+fn with_declared(alloc: Global, asked: &Asked, tree: &Tree, names: &Names) -> Result<Text, Fail> {
+    match facts(alloc, names, tree) {
+        Ok(known) => with_names(alloc, asked, tree, &known, names),
         Err(error) => Err(error.into()),
     }
 }
 
 fn in_world(alloc: Global, asked: &Asked, tree: &Tree) -> Result<Text, Fail> {
-    match facts(alloc) {
-        Ok(known) => with_facts(alloc, asked, tree, &known),
+    match declare(alloc, tree) {
+        Ok(names) => with_declared(alloc, asked, tree, &names),
         Err(error) => Err(error.into()),
     }
 }
@@ -192,7 +192,7 @@ fn in_p(alloc: Global, row: &[u8]) -> Result<Text, Fail> {
 fn each_expression_is_told(rt: HostRuntime) -> Result<(), Fail> {
     let (right, wrong) = check_rows(rt.alloc(), ROWS, in_file)?;
     assert_eq!(rt; wrong, None);
-    assert_eq!(rt; right, 169);
+    assert_eq!(rt; right, 196);
     Ok(())
 }
 

@@ -88,7 +88,15 @@ fn push_func_of(
 ) -> Result<(), NoMemory>
     ensures { OnOk result (list.new ≡ list.old ++ built_in_func name.now entity (Some (bare takes)) gives false ∷ []) }
 {
-    push_func(alloc, list, name, entity, Some(bare(alloc, takes)), gives, false)
+    push_func(
+        alloc,
+        list,
+        name,
+        entity,
+        Some(bare(alloc, takes)),
+        gives,
+        false,
+    )
 }
 
 /// Two labels.
@@ -135,7 +143,15 @@ fn push_static(
 pub(crate) fn push_funcs(alloc: Global, list: &mut Declarations) -> Result<(), NoMemory>
     ensures { OnOk result (list.new ≡ list.old ++ built_in_funcs) }
 {
-    push_func(alloc, list, b"print", BuiltIn::Print, None, Base::Void, false)
+    push_func(
+        alloc,
+        list,
+        b"print",
+        BuiltIn::Print,
+        None,
+        Base::Void,
+        false,
+    )
 }
 
 /// Adds the members of `Int`.
@@ -150,7 +166,14 @@ pub(crate) fn push_of_int(alloc: Global, list: &mut Declarations) -> Result<(), 
 pub(crate) fn push_of_string(alloc: Global, list: &mut Declarations) -> Result<(), NoMemory>
     ensures { OnOk result (list.new ≡ list.old ++ of_string) }
 {
-    push_value(alloc, list, b"isEmpty", false, BuiltIn::StringIsEmpty, Base::Bool)
+    push_value(
+        alloc,
+        list,
+        b"isEmpty",
+        false,
+        BuiltIn::StringIsEmpty,
+        Base::Bool,
+    )
 }
 
 /// Adds the members of arrays.
@@ -158,8 +181,23 @@ pub(crate) fn push_of_array(alloc: Global, list: &mut Declarations) -> Result<()
     ensures { OnOk result (list.new ≡ list.old ++ of_array) }
 {
     push_value(alloc, list, b"count", false, BuiltIn::Count, Base::Int)?;
-    push_value(alloc, list, b"isEmpty", false, BuiltIn::ArrayIsEmpty, Base::Bool)?;
-    push_func(alloc, list, b"append", BuiltIn::Append, None, Base::Void, true)
+    push_value(
+        alloc,
+        list,
+        b"isEmpty",
+        false,
+        BuiltIn::ArrayIsEmpty,
+        Base::Bool,
+    )?;
+    push_func(
+        alloc,
+        list,
+        b"append",
+        BuiltIn::Append,
+        None,
+        Base::Void,
+        true,
+    )
 }
 
 /// Adds the initialiser of `ActorID`.
@@ -168,7 +206,15 @@ pub(crate) fn push_of_id(alloc: Global, list: &mut Declarations) -> Result<(), N
 {
     let labels = labels(alloc, b"node", b"name")?;
     let takes = types(alloc, Base::Int, Base::Str)?;
-    push_static(alloc, list, b"init", BuiltIn::ActorId, labels, takes, Base::Id)
+    push_static(
+        alloc,
+        list,
+        b"init",
+        BuiltIn::ActorId,
+        labels,
+        takes,
+        Base::Id,
+    )
 }
 
 /// Adds the members of `NodeSystem`.
@@ -176,8 +222,22 @@ pub(crate) fn push_of_system(alloc: Global, list: &mut Declarations) -> Result<(
     ensures { OnOk result (list.new ≡ list.old ++ of_system) }
 {
     push_value(alloc, list, b"node", false, BuiltIn::Node, Base::Int)?;
-    push_func_of(alloc, list, b"named", BuiltIn::Named, Base::Str, Base::System)?;
-    push_func_of(alloc, list, b"resignID", BuiltIn::ResignId, Base::Id, Base::Void)?;
+    push_func_of(
+        alloc,
+        list,
+        b"named",
+        BuiltIn::Named,
+        Base::Str,
+        Base::System,
+    )?;
+    push_func_of(
+        alloc,
+        list,
+        b"resignID",
+        BuiltIn::ResignId,
+        Base::Id,
+        Base::Void,
+    )?;
     Ok(())
 }
 
@@ -187,7 +247,15 @@ fn push_resolve(alloc: Global, list: &mut Declarations, owner: TypeNo) -> Result
     let labels = labels(alloc, b"id", b"using")?;
     let takes = types(alloc, Base::Id, Base::System)?;
     let resolve = BuiltIn::Resolve(owner);
-    push_static(alloc, list, b"resolve", resolve, labels, takes, Base::Distributed(owner))
+    push_static(
+        alloc,
+        list,
+        b"resolve",
+        resolve,
+        labels,
+        takes,
+        Base::Distributed(owner),
+    )
 }
 
 fn push_of_distributed(
@@ -198,7 +266,14 @@ fn push_of_distributed(
     ensures { OnOk result (list.new ≡ list.old ++ of_distributed owner) }
 {
     push_value(alloc, list, b"id", false, BuiltIn::Id, Base::Id)?;
-    push_value(alloc, list, b"actorSystem", false, BuiltIn::ActorSystem, Base::System)?;
+    push_value(
+        alloc,
+        list,
+        b"actorSystem",
+        false,
+        BuiltIn::ActorSystem,
+        Base::System,
+    )?;
     push_resolve(alloc, list, owner)?;
     Ok(())
 }

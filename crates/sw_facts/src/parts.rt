@@ -94,7 +94,12 @@ fn case_labels(labels: &ArgLabels) -> Result<Option<ArgLabels>, NoMemory>
     Ok(Some(labels.copy()?))
 }
 
-fn case_of(alloc: Global, owner: TypeNo, number: u32, x: &CaseEntry) -> Result<Declaration, NoMemory>
+fn case_of(
+    alloc: Global,
+    owner: TypeNo,
+    number: u32,
+    x: &CaseEntry,
+) -> Result<Declaration, NoMemory>
     ensures { IfOk result (λ made. made ≡ case_of owner number x.now) }
 {
     Ok(Declaration {
@@ -145,11 +150,7 @@ pub(crate) fn changes(is_mutating: bool, is_static: bool) -> bool
     is_mutating && !is_static
 }
 
-fn required_func(
-    owner: TypeNo,
-    number: u32,
-    x: &Signature,
-) -> Result<Declaration, NoMemory>
+fn required_func(owner: TypeNo, number: u32, x: &Signature) -> Result<Declaration, NoMemory>
     ensures { IfOk result (λ made. made ≡ requirement_of owner number (requirement.Func x.now)) }
 {
     Ok(Declaration {

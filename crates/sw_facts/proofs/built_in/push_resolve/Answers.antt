@@ -12,9 +12,9 @@ use Rattle.sw_facts.proofs.built_in.push_resolve.Goals as goal
 pub returns : goal.returns
 returns c =
     let made : List Label → List (Option Ty) → Declaration = λ labels takes.
-        callable (codes "resolve") true (entity.BuiltIn (built_in.Resolve c.args.owner)) labels takes (Some (bare (base.Distributed c.args.owner))) false in
+    callable (codes "resolve") true (entity.BuiltIn (built_in.Resolve c.args.owner)) labels takes (Some (bare (base.Distributed c.args.owner))) false in
     let labelled : made c.in_ok-labels.labels c.in_ok-takes.takes ≡ made (Some (codes "id") ∷ Some (codes "using") ∷ []) c.in_ok-takes.takes =
-        ap (λ l. made l c.in_ok-takes.takes) c.in_ok-labels.ensures in
+    ap (λ l. made l c.in_ok-takes.takes) c.in_ok-labels.ensures in
     let taken : made (Some (codes "id") ∷ Some (codes "using") ∷ []) c.in_ok-takes.takes ≡ resolve c.args.owner =
-        ap (λ t. made (Some (codes "id") ∷ Some (codes "using") ∷ []) t) c.in_ok-takes.ensures in
+    ap (λ t. made (Some (codes "id") ∷ Some (codes "using") ∷ []) t) c.in_ok-takes.ensures in
     subst (λ k. OnOk c.push_static.result (c.push_static.new.list ≡ c.args.list.now ++ k ∷ [])) (labelled ∙ taken) c.push_static.ensures
