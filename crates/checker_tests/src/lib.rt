@@ -5,9 +5,13 @@
 #![tactic(auto)]
 
 #[cfg(test)]
+mod declarations;
+#[cfg(test)]
 mod expressions;
 #[cfg(test)]
 mod graph;
+#[cfg(test)]
+mod holding;
 #[cfg(test)]
 mod sharing;
 #[cfg(test)]

@@ -51,12 +51,13 @@ fn types(alloc: Global, words: &str) -> Result<Tys, NoMemory> {
     Ok(types)
 }
 
-fn structure(alloc: Global, words: &str) -> Result<Form, NoMemory> {
+/// A struct of properties of these types.
+pub fn structure(alloc: Global, words: &str) -> Result<Form, NoMemory> {
     Ok(Form::Struct(Items::new(alloc), types(alloc, words)?))
 }
 
 /// Cases with these types of their payloads, parted by `|`.
-fn cases(alloc: Global, words: &str) -> Result<Form, NoMemory> {
+pub fn cases(alloc: Global, words: &str) -> Result<Form, NoMemory> {
     let mut cases = Items::new(alloc);
     for payload in words.split('|') {
         cases.push(CaseOf {

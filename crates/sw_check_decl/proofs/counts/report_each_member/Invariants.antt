@@ -1,0 +1,8 @@
+use Rattle.std.proofs.Common.{◌≡◌, take}
+use Rattle.std.specs.List.{flat_map}
+use Rattle.sw_findings.specs.Found.{keep_all}
+use Rattle.sw_check_decl.specs.Counts.{member_counted}
+use Rattle.sw_check_decl.proofs.counts.report_each_member.Given as goal
+
+abbrev pub invariant-loop-member : goal.invariant-loop-member
+invariant-loop-member l = l.found ≡ keep_all l.initial.found (flat_map member_counted (take l.member-index l.members))

@@ -1,0 +1,14 @@
+//! Which declared types hold which, over any table of types: the first that holds itself, the levels, the first whose level
+//! is too high, and the types that may cross between nodes while circles may be there.
+//!
+//! A type is told by its number, which is its index in the table.
+#![tactic(auto)]
+
+mod above;
+mod edges;
+mod holding;
+mod members;
+mod parts;
+
+pub use holding::{Holding, holding_of};
+pub use members::{codable_members, is_member};
