@@ -15,12 +15,7 @@ use sw_rules::Refusal;
 use sw_tree::{Decl, Tree};
 use test_rows::check_rows;
 
-fn report(
-    alloc: Global,
-    found: &mut Findings,
-    names: &Names,
-    decl: &Decl,
-) -> Result<(), NoMemory> {
+fn report(alloc: Global, found: &mut Findings, names: &Names, decl: &Decl) -> Result<(), NoMemory> {
     match members_in(alloc, decl) {
         Ok(own) => {
             report_declaration(found, names, &own, decl);
