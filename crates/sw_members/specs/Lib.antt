@@ -1,3 +1,4 @@
 -- The words of this crate's contracts.
 pub mod Found
+pub mod Given
 pub mod Keys

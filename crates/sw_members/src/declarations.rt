@@ -1,10 +1,11 @@
 //! Declarations, found by name.
 
-ghost use Rattle.std.specs.Prelude.{◌≡◌, ◌<◌, ◌-◌, ◌^◌, [], ◌∷◌, ◌++◌, IfOk, IfSome, OnErr, OnOk};
+ghost use Rattle.std.specs.Prelude.{◌≡◌, ◌<◌, ◌-◌, ◌^◌, length, [], ◌∷◌, ◌++◌, IfOk, IfSome, OnErr, OnOk};
 ghost use Rattle.std.specs.List.{position};
 ghost use Rattle.std.specs.Option.{option_copied};
 ghost use Rattle.sw_declared.specs.Declarations.{argument_labels};
 ghost use Rattle.sw_members.specs.Found.{any_callable, any_named, fitting, value_named};
+ghost use Rattle.sw_members.specs.Given.{given_at, with_type};
 ghost use Rattle.sw_members.specs.Keys.{answers, at_place, place};
 
 use crate::declaration::{Declaration, Side};
@@ -12,10 +13,12 @@ use crate::firsts::{keep_firsts, prepare};
 use crate::keys::{Question, answers, call_key, keys_of, name_key};
 use std::alloc::Global;
 use std::marker::Model;
-use sw_base::{Items, NoMemory};
+use sw_base::{FuncNo, Items, NoMemory, Text};
 use sw_declared::spellings_tell;
 use sw_sight::Levels;
 use sw_tree::Argument;
+use sw_typed::Entity;
+use sw_value::Ty;
 
 /// Declarations, of which contracts see the list. Each question is one hashed look-up; only where there is no memory
 /// for the key of a long name are all looked through.
@@ -70,6 +73,19 @@ impl Declarations {
         self.items.push(item)?;
         let number = self.items.len();
         keep_firsts(&mut self.firsts, keys.as_slice(), number);
+        Ok(())
+    }
+
+    /// Gives the declaration at an index, counted from 0, this type. The only error is want of memory, and leaves the list
+    /// as it was.
+    pub fn give(&mut self, at: usize, gives: Ty) -> Result<(), NoMemory>
+        requires { at < length self.old }
+        ensures ok { OnOk result (self.new ≡ given_at at gives self.old) }
+        ensures err { OnErr result (self.new ≡ self.old) }
+    {
+        let placeholder = placeholder(self.alloc)?;
+        let item = self.items.replace(at, placeholder);
+        self.items.replace(at, with_type(item, gives));
         Ok(())
     }
 
@@ -139,6 +155,36 @@ impl Declarations {
         }
         self.items.get(place - 1)
     }
+}
+
+/// The same declaration with this type.
+fn with_type(item: Declaration, gives: Ty) -> Declaration
+    ensures { result ≡ with_type gives item }
+{
+    Declaration {
+        name: item.name,
+        labels: item.labels,
+        is_static: item.is_static,
+        entity: item.entity,
+        takes: item.takes,
+        gives: Some(gives),
+        is_mutating: item.is_mutating,
+        is_var: item.is_var,
+    }
+}
+
+/// What stands in the list while a declaration is changed.
+fn placeholder(alloc: Global) -> Result<Declaration, NoMemory> {
+    Ok(Declaration {
+        name: Text::from_bytes(alloc, &[])?,
+        labels: None,
+        is_static: false,
+        entity: Entity::Func(FuncNo(0)),
+        takes: Items::new(alloc),
+        gives: None,
+        is_mutating: false,
+        is_var: false,
+    })
 }
 
 /// The index of the first declaration that is asked for.
