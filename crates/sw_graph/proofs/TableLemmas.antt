@@ -6,7 +6,7 @@ use Rattle.sw_graph.specs.Graphs.{Graph, marked}
 use Rattle.sw_graph.specs.Cycles.{IsOnCycle, NeverRise, Reaches, AreOnCycles}
 use Rattle.sw_graph.specs.Search.{Has, Searched, IsClear, IsTurned, Marks, IsBoth, AreBelow}
 use Rattle.sw_graph.proofs.MarkLemmas.{at, within', same', marked_within, marked_set, true≢}
-use Rattle.sw_graph.proofs.CycleLemmas.{set_kept, set_same, drops, drop_all, found, points_past}
+use Rattle.sw_graph.proofs.CycleLemmas.{set_kept, drops, drop_all, found, points_past}
 use Rattle.sw_graph.proofs.TurnLemmas.{reaches_turned, reaches_join}
 
 pub not_true : (b : Bool) → (b ≡ true → ⊥) → b ≡ false

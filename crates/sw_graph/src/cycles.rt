@@ -52,7 +52,7 @@ pub fn on_cycles(
     Ok(found.table)
 }
 
-// Marks a number where it is chosen and stands on a cycle, and with it all that were found to stand on one.
+// Marks a number where it is chosen and stands on a cycle, and with it others that were found to stand on one.
 fn settle(
     graph: &[Items<u32>],
     turned: &[Items<u32>],
@@ -196,59 +196,35 @@ fn search(graph: &[Items<u32>], ranks: &[u32], from: usize, seen: &mut Seen) -> 
     ensures { OnOk result (Searched graph.now ranks.now from seen.new.table.items seen.new.queue.items (length seen.new.queue.items)) }
 {
     let rank = entry(ranks, from);
-    visit(
-        successors(graph, from),
-        ranks,
-        rank,
-        &mut seen.table,
-        &mut seen.queue,
-    )?;
+    visit(successors(graph, from), ranks, rank, seen)?;
     let mut place = 0;
     while place < seen.queue.len() {
         let u = seen.queue[place] as usize;
-        visit(
-            successors(graph, u),
-            ranks,
-            rank,
-            &mut seen.table,
-            &mut seen.queue,
-        )?;
+        visit(successors(graph, u), ranks, rank, seen)?;
         place += 1;
     }
     Ok(())
 }
 
 // Sees and queues those of the numbers that have this rank and were not seen before.
-fn visit(
-    numbers: &[u32],
-    ranks: &[u32],
-    rank: u32,
-    seen: &mut Vec<bool>,
-    queue: &mut Vec<u32>,
-) -> Result<(), NoMemory>
-    ensures { OnOk result (Visited ranks.now rank numbers.now seen.old.items queue.old.items seen.new.items queue.new.items) }
+fn visit(numbers: &[u32], ranks: &[u32], rank: u32, seen: &mut Seen) -> Result<(), NoMemory>
+    ensures { OnOk result (Visited ranks.now rank numbers.now seen.old.table.items seen.old.queue.items seen.new.table.items seen.new.queue.items) }
 {
     for u in numbers {
-        visit_one(*u, ranks, rank, seen, queue)?;
+        visit_one(*u, ranks, rank, seen)?;
     }
     Ok(())
 }
 
-fn visit_one(
-    u: u32,
-    ranks: &[u32],
-    rank: u32,
-    seen: &mut Vec<bool>,
-    queue: &mut Vec<u32>,
-) -> Result<(), NoMemory>
-    ensures { OnOk result (Visited ranks.now rank (u ∷ []) seen.old.items queue.old.items seen.new.items queue.new.items) }
+fn visit_one(u: u32, ranks: &[u32], rank: u32, seen: &mut Seen) -> Result<(), NoMemory>
+    ensures { OnOk result (Visited ranks.now rank (u ∷ []) seen.old.table.items seen.old.queue.items seen.new.table.items seen.new.queue.items) }
 {
     let at = u as usize;
-    if entry(ranks, at) != rank || at >= seen.len() || is_marked(seen.as_slice(), at) {
+    if entry(ranks, at) != rank || at >= seen.table.len() || is_marked(seen.table.as_slice(), at) {
         return Ok(());
     }
-    queue.push(u)?;
-    seen[at] = true;
+    seen.queue.push(u)?;
+    seen.table[at] = true;
     Ok(())
 }
 

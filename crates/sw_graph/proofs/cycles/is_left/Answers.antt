@@ -1,4 +1,4 @@
-use Rattle.std.proofs.Common.{◌≡◌, sym, ◌∙◌, subst}
+use Rattle.std.proofs.Common.{sym, ◌∙◌, subst}
 use Rattle.sw_graph.specs.Graphs.{successors}
 use Rattle.sw_graph.specs.Search.{Has}
 use Rattle.sw_graph.proofs.MarkLemmas.{has_from}

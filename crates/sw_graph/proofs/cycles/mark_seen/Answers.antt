@@ -1,5 +1,4 @@
-use Rattle.std.proofs.Common.{◌≡◌, true, sym, subst, arith}
-use Rattle.sw_graph.specs.Graphs.{marked}
+use Rattle.std.proofs.Common.{sym, subst, arith}
 use Rattle.sw_graph.specs.Search.{Has}
 use Rattle.sw_graph.proofs.MarkLemmas.{has_at}
 use Rattle.sw_graph.proofs.TableLemmas.{marks_more}
