@@ -14,7 +14,6 @@ use Rattle.sw_value.specs.Codable.{among}
 use Rattle.sw_graph.specs.Graphs.{Graph, HasEdge}
 use Rattle.sw_holding.specs.Holds.{is_value, is_protocol, Conforms}
 use Rattle.sw_holding.specs.Levels.{HasChain}
-use Rattle.sw_holding.specs.Above.{IsAbove}
 use Rattle.sw_holding.specs.Members.{marked}
 
 abbrev pub bases_of : List Ty → List Base
@@ -85,10 +84,6 @@ settled (Some kind) walk = settled_form kind.form walk
 pub record AreBounded (kinds : List Kind) (table : List Truth) : Type 0 where
   pub only : (t : ℕ) → is_value (slice_get kinds t) ≡ true → marked table t ≡ true → (n : ℕ) × HasChain kinds n t × (HasChain kinds (suc n) t → ⊥)
   pub all : (t n : ℕ) → is_value (slice_get kinds t) ≡ true → (HasChain kinds n t → ⊥) → marked table t ≡ true
-
--- below a bound no level is above 64
-pub record NoneAbove (kinds : List Kind) (bound : ℕ) : Type 0 where
-  pub each : (t : ℕ) → t < bound → IsAbove kinds t → ⊥
 
 -- ---- what may cross
 
