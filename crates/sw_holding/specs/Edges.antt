@@ -1,6 +1,6 @@
 -- How the answers are found: a table of types as a graph, in which a protocol is a number of its own. No public clause cites this
 -- module.
-use Rattle.std.specs.Prelude.{◌≡◌, ℕ, suc, pred, ◌<◌, ◌⊎◌, ◌&&◌, nat_le, Bool as Truth, true, false, List, [], ◌∷◌, length, map, slice_get, if◌then◌else◌, Option, Some, None}
+use Rattle.std.specs.Prelude.{◌≡◌, ℕ, suc, pred, ◌⊎◌, ◌&&◌, nat_le, Bool as Truth, true, false, List, [], ◌∷◌, length, map, slice_get, if◌then◌else◌, Option, Some, None}
 use Rattle.std.specs.List.{Contains, flat_map, list_all}
 use Rattle.sw_base.specs.declared.ids.TypeNo.{TypeNo}
 use Rattle.sw_value.specs.declared.ty.Base.{Base}

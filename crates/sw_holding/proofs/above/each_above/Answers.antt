@@ -1,4 +1,4 @@
-use Rattle.std.proofs.Common.{◌∙◌, false, arith}
+use Rattle.std.proofs.Common.{false, arith}
 use Rattle.sw_holding.proofs.Lists.{table_push, table_whole}
 use Rattle.sw_holding.proofs.AboveLemmas.{test, test_past, are_above}
 use Rattle.sw_holding.proofs.above.each_above.Goals as goal
