@@ -6,7 +6,7 @@ use rows::{COMPONENTS, CYCLES, LEAST, LEVELS};
 use std::alloc::Global;
 use std::test::Fail;
 use sw_base::{Items, NoMemory, Text};
-use sw_graph::{first_on_cycle, least, levels, ranks};
+use sw_graph::{least, levels, on_cycles, ranks};
 use test_rows::check_rows;
 
 /// The graph of these words: each number's successors, parted by commas, or `-`.
@@ -49,22 +49,32 @@ fn parts(row: &[u8]) -> (&str, &str, &str) {
     (words, table, most)
 }
 
-/// The first of the row's numbers that stands on a cycle.
-fn cycle(alloc: Global, row: &[u8]) -> Result<Text, Fail> {
+/// A table of marks, as rows write it.
+fn written(alloc: Global, table: &[bool]) -> Result<Text, Fail> {
+    let mut told = String::new(alloc);
+    for mark in table {
+        told.push(if *mark { '1' } else { '0' })?;
+    }
+    text(alloc, told.as_str())
+}
+
+/// The numbers of a row that stand on a cycle. They are the same for the ranks of components, and where all have one rank.
+fn circular(alloc: Global, row: &[u8]) -> Result<Text, Fail> {
     let (words, table, _) = parts(row);
     let graph = graph(alloc, words)?;
     let chosen = marks(alloc, table)?;
     let ranked = ranks(alloc, graph.as_slice())?;
-    let first = first_on_cycle(
+    let found = on_cycles(
         alloc,
         graph.as_slice(),
         ranked.ranks.as_slice(),
         chosen.as_slice(),
     )?;
-    match first {
-        Some(first) => text(alloc, format!(in alloc; "{first}")?.as_str()),
-        None => text(alloc, "none"),
+    let again = on_cycles(alloc, graph.as_slice(), &[], chosen.as_slice())?;
+    if found != again {
+        return text(alloc, "two answers");
     }
+    written(alloc, found.as_slice())
 }
 
 /// The least set of a row. It is the same for the order of the components, and for no order.
@@ -86,11 +96,7 @@ fn smallest(alloc: Global, row: &[u8]) -> Result<Text, Fail> {
     if found != again {
         return text(alloc, "two answers");
     }
-    let mut told = String::new(alloc);
-    for mark in found.as_slice() {
-        told.push(if *mark { '1' } else { '0' })?;
-    }
-    text(alloc, told.as_str())
+    written(alloc, found.as_slice())
 }
 
 fn listed<'a, T: std::fmt::Display + 'a>(alloc: Global, numbers: &'a [T]) -> Result<Text, Fail> {
@@ -148,8 +154,8 @@ fn components(alloc: Global, row: &[u8]) -> Result<Text, Fail> {
 
 #[test]
 fn each_graph_is_answered_as_its_row_says(rt: HostRuntime) -> Result<(), Fail> {
-    let (right, wrong) = check_rows(rt.alloc(), CYCLES, cycle)?;
-    assert_eq!(rt; (right, wrong), (18, None));
+    let (right, wrong) = check_rows(rt.alloc(), CYCLES, circular)?;
+    assert_eq!(rt; (right, wrong), (32, None));
     let (right, wrong) = check_rows(rt.alloc(), LEAST, smallest)?;
     assert_eq!(rt; (right, wrong), (14, None));
     let (right, wrong) = check_rows(rt.alloc(), LEVELS, leveled)?;
@@ -184,6 +190,52 @@ fn long(
     Ok(graph)
 }
 
+/// So many circles, each of two numbers.
+fn pairs(alloc: Global, count: u32) -> Result<Vec<Items<u32>>, NoMemory> {
+    let mut graph = Vec::new(alloc);
+    for pair in 0..count {
+        let first = pair.saturating_mul(2);
+        for other in [first.saturating_add(1), first] {
+            let mut successors = Items::new(alloc);
+            successors.push(other)?;
+            graph.push(successors)?;
+        }
+    }
+    Ok(graph)
+}
+
+/// How many of the chosen numbers stand on a cycle.
+fn count_on_cycles(
+    alloc: Global,
+    graph: &[Items<u32>],
+    chosen: &[bool],
+) -> Result<usize, NoMemory> {
+    let ranked = ranks(alloc, graph)?;
+    let table = on_cycles(alloc, graph, ranked.ranks.as_slice(), chosen)?;
+    let mut count: usize = 0;
+    for mark in table.as_slice() {
+        if *mark {
+            count = count.saturating_add(1);
+        }
+    }
+    Ok(count)
+}
+
+#[test]
+fn large_circles_and_many_circles_take_little_time(rt: HostRuntime) -> Result<(), Fail> {
+    let alloc = rt.alloc();
+    let all = vec![in alloc; true; 100000]?;
+    for is_back in [false, true] {
+        let graph = long(alloc, 100000, is_back, true)?;
+        let marked = count_on_cycles(alloc, graph.as_slice(), all.as_slice())?;
+        assert_eq!(rt; marked, 100000);
+    }
+    let graph = pairs(alloc, 50000)?;
+    let marked = count_on_cycles(alloc, graph.as_slice(), all.as_slice())?;
+    assert_eq!(rt; marked, 100000);
+    Ok(())
+}
+
 #[test]
 fn a_long_walk_takes_no_stack_and_little_time(rt: HostRuntime) -> Result<(), Fail> {
     let alloc = rt.alloc();
@@ -193,13 +245,8 @@ fn a_long_walk_takes_no_stack_and_little_time(rt: HostRuntime) -> Result<(), Fai
         for is_closed in [false, true] {
             let graph = long(alloc, count, is_back, is_closed)?;
             let ranked = ranks(alloc, graph.as_slice())?;
-            let first = first_on_cycle(
-                alloc,
-                graph.as_slice(),
-                ranked.ranks.as_slice(),
-                all.as_slice(),
-            )?;
-            assert_eq!(rt; first, if is_closed { Some(0) } else { None });
+            let marked = count_on_cycles(alloc, graph.as_slice(), all.as_slice())?;
+            assert_eq!(rt; marked, if is_closed { 20000 } else { 0 });
             if graph.len() == all.len() {
                 let set = least(
                     alloc,

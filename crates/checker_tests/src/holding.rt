@@ -49,10 +49,9 @@ fn kinds(alloc: Global, row: &str) -> Result<Items<Kind>, NoMemory> {
     Ok(kinds)
 }
 
-fn push_index(alloc: Global, text: &mut Text, index: Option<usize>) -> Result<(), Fail> {
-    match index {
-        Some(index) => text.push_all(format!(in alloc; "{index}")?.as_bytes())?,
-        None => text.push_all(b"-")?,
+fn push_marks(text: &mut Text, table: &[bool]) -> Result<(), NoMemory> {
+    for mark in table {
+        text.push_all(if *mark { b"1" } else { b"0" })?;
     }
     Ok(())
 }
@@ -91,9 +90,9 @@ fn told(alloc: Global, row: &[u8]) -> Result<Text, Fail> {
     let holding = holding_of(alloc, kinds.as_slice())?;
     let table = codable_members(alloc, kinds.as_slice())?;
     let mut text = Text::from_bytes(alloc, b"")?;
-    push_index(alloc, &mut text, holding.first_circular)?;
+    push_marks(&mut text, holding.circular.as_slice())?;
     push_levels(alloc, &mut text, holding.levels.as_slice())?;
-    push_index(alloc, &mut text, holding.first_above)?;
+    push_marks(&mut text, holding.above.as_slice())?;
     text.push_all(b" ")?;
     push_members(alloc, &mut text, kinds.as_slice(), table.as_slice())?;
     Ok(text)
@@ -113,18 +112,33 @@ fn chain(alloc: Global, length: u32) -> Result<Items<Kind>, Fail> {
 fn each_table_is_told(rt: HostRuntime) -> Result<(), Fail> {
     let (right, wrong) = check_rows(rt.alloc(), ROWS, told)?;
     assert_eq!(rt; wrong, None);
-    assert_eq!(rt; right, 32);
+    assert_eq!(rt; right, 35);
     Ok(())
+}
+
+/// How many a table marks.
+fn count(table: &[bool]) -> usize {
+    let mut count: usize = 0;
+    for mark in table {
+        if *mark {
+            count = count.saturating_add(1);
+        }
+    }
+    count
 }
 
 #[test]
 fn level_64_is_the_last(rt: HostRuntime) -> Result<(), Fail> {
     let alloc = rt.alloc();
     let most = holding_of(alloc, chain(alloc, 64)?.as_slice())?;
-    assert_eq!(rt; most.first_above, None);
+    assert_eq!(rt; (most.above.len(), count(most.above.as_slice())), (64, 0));
     assert_eq!(rt; most.levels.as_slice().first().copied(), Some(64));
+    // of 66 the first has level 66, the second 65
     let more = holding_of(alloc, chain(alloc, 66)?.as_slice())?;
-    assert_eq!(rt; more.first_above, Some(0));
+    assert_eq!(rt; (more.above.len(), count(more.above.as_slice())), (66, 2));
+    assert_eq!(rt; more.above.first().copied(), Some(true));
+    assert_eq!(rt; more.above.get(1).copied(), Some(true));
+    assert_eq!(rt; count(more.circular.as_slice()), 0);
     assert_eq!(rt; more.levels.as_slice().get(1).copied(), Some(0));
     assert_eq!(rt; more.levels.as_slice().get(2).copied(), Some(64));
     Ok(())

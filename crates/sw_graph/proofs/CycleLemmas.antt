@@ -3,12 +3,12 @@ use Rattle.std.proofs.Common.{◌≡◌, ℕ, zero, suc, ◌+◌, ◌<◌, ◌�
 use mathlib.Core.Logic.{◌⊎◌, inl, inr}
 use Rattle.std.specs.List.{count_by}
 use Rattle.std.proofs.lemmas.List.{get_or-set_same, get_or-set_other, length-set}
-use Rattle.std.proofs.lemmas.List.Sums.{sum_by-set}
+use Rattle.std.proofs.lemmas.List.Sums.{sum_by-cons, sum_by-set}
 use Rattle.sw_graph.specs.Graphs.{Graph, marked, successors, entry}
 use Rattle.sw_graph.specs.Cycles.{Walk, IsOnCycle, NeverRise, Reaches}
 use Rattle.sw_graph.specs.Graphs.{HasEdge}
 use Rattle.sw_graph.specs.Search.{Has}
-use Rattle.sw_graph.specs.Search.{Visited, IsSpent, Searched}
+use Rattle.sw_graph.specs.Search.{Visited, IsSpent, Searched, IsClear}
 use Rattle.sw_graph.proofs.MarkLemmas.{at, successors_past, has_at, has_from, contains_from, within', same', marked_within, marked_set, true≢}
 
 -- ---- lists
@@ -33,10 +33,10 @@ has_which (x ∷ xs) ys u (inr h) = go (has_which xs ys u h)
 
 -- ---- marks
 
-set_same : (seen : List Bool) (u : ℕ) → u < length seen → marked (set seen u true) u ≡ true
+pub set_same : (seen : List Bool) (u : ℕ) → u < length seen → marked (set seen u true) u ≡ true
 set_same seen u h = at (set seen u true) u (omega (arith, length-set seen u true)) ∙ get_or-set_same seen u true false h
 
-set_kept : (seen : List Bool) (u v : ℕ) → u < length seen → marked seen v ≡ true → marked (set seen u true) v ≡ true
+pub set_kept : (seen : List Bool) (u v : ℕ) → u < length seen → marked seen v ≡ true → marked (set seen u true) v ≡ true
 set_kept seen u v h m = go (same' v u)
   where
     go : (v ≡ u) ⊎ (v ≡ u → ⊥) → marked (set seen u true) v ≡ true
@@ -49,6 +49,14 @@ count_set seen u h m =
     let e : get_or seen u false ≡ false = sym (at seen u h) ∙ m in
     let one : ◌≡◌ {A = ℕ} (cond (not (get_or seen u false)) 1 0) 1 = ap (λ b. cond (not b) 1 0) e in
     omega (arith, s, one)
+
+count_none : (seen : List Bool) → ((u : ℕ) → marked seen u ≡ false) → count_by not seen ≡ length seen
+count_none [] h = refl
+count_none (b ∷ seen) h =
+    let r = count_none seen (λ u. h (suc u)) in
+    let one : ◌≡◌ {A = ℕ} (cond (not b) 1 0) 1 = ap (λ c. cond (not c) 1 0) (h 0) in
+    let more : count_by not (b ∷ seen) ≡ cond (not b) 1 0 + count_by not seen = sum_by-cons (λ (c : Bool). cond (not c) 1 0) b seen in
+    omega (arith, r, one, more)
 
 -- ---- looking at numbers
 
@@ -118,44 +126,45 @@ visited_join ranks rank xs ys s0 q0 s1 q1 s2 q2 a b = record {
 spent_kept : (graph : Graph) (ranks : List ℕ) (rank : ℕ) (s0 s1 : List Bool) (u : ℕ) → length s1 ≡ length s0 → ((v : ℕ) → marked s0 v ≡ true → marked s1 v ≡ true) → IsSpent graph ranks rank s0 u → IsSpent graph ranks rank s1 u
 spent_kept graph ranks rank s0 s1 u e kept a = record { each = λ v h r w. kept v (a.each v h r (omega (arith, e))) }
 
-pub begun : (graph : Graph) (ranks : List ℕ) (from : ℕ) (s0 : List Bool) (q0 : List ℕ) (s1 : List Bool) (q1 : List ℕ)
-    → length s0 ≡ length graph → ((u : ℕ) → marked s0 u ≡ false) → count_by not s0 ≡ length graph → q0 ≡ []
+begun : (graph : Graph) (ranks : List ℕ) (from : ℕ) (s0 : List Bool) (q0 : List ℕ) (s1 : List Bool) (q1 : List ℕ)
+    → IsClear (length graph) s0 q0
     → Visited ranks (entry ranks from) (successors graph from) s0 q0 s1 q1 → Searched graph ranks from s1 q1 0
-begun graph ranks from s0 q0 s1 q1 size none count empty v =
-    let same : q1 ≡ v.more = v.grown ∙ ap (λ q. q ++ v.more) empty in
+begun graph ranks from s0 q0 s1 q1 clear v =
+    let same : q1 ≡ v.more = v.grown ∙ ap (λ q. q ++ v.more) clear.empty in
     record {
-      size = v.size ∙ size;
-      sum = omega (arith, v.sum, count, ap length empty);
+      size = v.size ∙ clear.size;
+      sum = omega (arith, v.sum, count_none s0 clear.none, clear.size, ap length clear.empty);
       within = omega arith;
       reached = λ u m. reached u (v.found u m);
       marks = λ u h. v.marks u (subst (λ q. Has q u) same h);
+      queued = λ u m. subst (λ q. Has q u) (sym same) (queued u (v.found u m));
       begun = record { each = λ u h e w. v.all u (has_from (successors graph from) u h) e w };
       spent = λ u m. inr (subst (λ q. Has q u) (sym same) (queued u (v.found u m)));
     }
   where
     reached : (u : ℕ) → (marked s0 u ≡ true) ⊎ (Has (successors graph from) u × Has v.more u) → Reaches graph from u
-    reached u (inl m) = true≢ (sym (none u) ∙ m)
+    reached u (inl m) = true≢ (sym (clear.none u) ∙ m)
     reached u (inr p) = record { edges = 0; walk = (u, contains_from (successors graph from) u p.0, refl) }
 
     queued : (u : ℕ) → (marked s0 u ≡ true) ⊎ (Has (successors graph from) u × Has v.more u) → Has v.more u
-    queued u (inl m) = true≢ (sym (none u) ∙ m)
+    queued u (inl m) = true≢ (sym (clear.none u) ∙ m)
     queued u (inr p) = p.1
 
 pub begun_at : (graph : Graph) (ranks : List ℕ) (from : ℕ) (s0 : List Bool) (q0 : List ℕ) (s1 : List Bool) (q1 : List ℕ) (rank : ℕ) (xs : List ℕ)
     → rank ≡ entry ranks from → xs ≡ successors graph from
-    → length s0 ≡ length graph → ((u : ℕ) → marked s0 u ≡ false) → count_by not s0 ≡ length graph → q0 ≡ []
+    → IsClear (length graph) s0 q0
     → Visited ranks rank xs s0 q0 s1 q1 → Searched graph ranks from s1 q1 0
-begun_at graph ranks from s0 q0 s1 q1 rank xs e d size none count empty v =
-    begun graph ranks from s0 q0 s1 q1 size none count empty (subst (λ n. Visited ranks n (successors graph from) s0 q0 s1 q1) e (subst (λ ys. Visited ranks rank ys s0 q0 s1 q1) d v))
+begun_at graph ranks from s0 q0 s1 q1 rank xs e d clear v =
+    begun graph ranks from s0 q0 s1 q1 clear (subst (λ n. Visited ranks n (successors graph from) s0 q0 s1 q1) e (subst (λ ys. Visited ranks rank ys s0 q0 s1 q1) d v))
 
-walk_on : (graph : Graph) (n a b c : ℕ) → Walk graph n a b → HasEdge graph b c → Walk graph (suc n) a c
+pub walk_on : (graph : Graph) (n a b c : ℕ) → Walk graph n a b → HasEdge graph b c → Walk graph (suc n) a c
 walk_on graph zero a b c w h = (c, subst (λ x. HasEdge graph x c) (sym w) h, refl)
 walk_on graph (suc n) a b c w h = (w.0, w.1, walk_on graph n w.0 b c w.2 h)
 
 reaches_on : (graph : Graph) (a b c : ℕ) → Reaches graph a b → HasEdge graph b c → Reaches graph a c
 reaches_on graph a b c r h = record { edges = suc r.edges; walk = walk_on graph (suc r.edges) a b c r.walk h }
 
-drops : (xs : List ℕ) (i u : ℕ) → i < length xs → u ≡ get_or xs i 0 → drop i xs ≡ u ∷ drop (i + 1) xs
+pub drops : (xs : List ℕ) (i u : ℕ) → i < length xs → u ≡ get_or xs i 0 → drop i xs ≡ u ∷ drop (i + 1) xs
 drops xs i u h e = rw (add-one i) (drop-cons xs i 0 h ∙ ap (λ y. y ∷ drop (suc i) xs) (sym e))
 
 has_later : (xs ys : List ℕ) (i u : ℕ) → Has (drop i xs) u → Has (drop i (xs ++ ys)) u
@@ -178,6 +187,7 @@ stepped graph ranks from s0 q0 s1 q1 place u h is a v = record {
   within = omega (arith, ap length v.grown, length-append q0 v.more);
   reached = λ x m. reached x (v.found x m);
   marks = λ x k. marks x (has_which q0 v.more x (subst (λ q. Has q x) v.grown k));
+  queued = λ x m. subst (λ q. Has q x) (sym v.grown) (queued x (v.found x m));
   begun = spent_kept graph ranks (entry ranks from) s0 s1 from v.size v.kept a.begun;
   spent = λ x m. spent x (v.found x m);
 }
@@ -192,6 +202,10 @@ stepped graph ranks from s0 q0 s1 q1 place u h is a v = record {
     marks : (x : ℕ) → Has q0 x ⊎ Has v.more x → marked s1 x ≡ true
     marks x (inl k) = v.kept x (a.marks x k)
     marks x (inr k) = v.marks x k
+
+    queued : (x : ℕ) → (marked s0 x ≡ true) ⊎ (Has (successors graph u) x × Has v.more x) → Has (q0 ++ v.more) x
+    queued x (inl m) = has_left q0 v.more x (a.queued x m)
+    queued x (inr p) = has_right q0 v.more x p.1
 
     here : IsSpent graph ranks (entry ranks from) s1 u
     here = record { each = λ y e r w. v.all y (has_from (successors graph u) y e) r w }
@@ -222,7 +236,7 @@ walk_falls : (graph : Graph) (ranks : List ℕ) (n a b : ℕ) → NeverRise grap
 walk_falls graph ranks zero a b f w = omega (arith, ap (entry ranks) w)
 walk_falls graph ranks (suc n) a b f w = omega (arith, f.each a w.0 w.1, walk_falls graph ranks n w.0 b f w.2)
 
-points_past : (graph : Graph) (a b : ℕ) → HasEdge graph a b → a < length graph
+pub points_past : (graph : Graph) (a b : ℕ) → HasEdge graph a b → a < length graph
 points_past graph a b h = go (within' a (length graph))
   where
     go : (a < length graph) ⊎ (length graph ≤ a) → a < length graph
@@ -233,7 +247,7 @@ walk_within : (graph : Graph) (n a b : ℕ) → b < length graph → Walk graph 
 walk_within graph zero a b h w = omega (arith, w)
 walk_within graph (suc n) a b h w = points_past graph a w.0 w.1
 
-drop_all : (xs : List ℕ) (u : ℕ) → Has (drop (length xs) xs) u → ⊥
+pub drop_all : (xs : List ℕ) (u : ℕ) → Has (drop (length xs) xs) u → ⊥
 drop_all [] u h = h
 drop_all (x ∷ xs) u h = let e : length (x ∷ xs) ≡ suc (length xs) = omega arith in drop_all xs u (subst (λ (n : ℕ). Has (drop n (x ∷ xs)) u) e h)
 
@@ -264,9 +278,6 @@ found graph ranks from seen queue h f s o =
     let same = first_step graph ranks from f o in
     let within : o.walk.0 < length seen = omega (arith, s.size, walk_within graph o.edges o.walk.0 from h o.walk.2) in
     stays graph ranks from seen queue h f s o.edges o.walk.0 (s.begun.each o.walk.0 o.walk.1 same within) same o.walk.2
-
-pub cycle : (graph : Graph) (ranks : List ℕ) (from : ℕ) (seen : List Bool) (queue : List ℕ) → Searched graph ranks from seen queue (length queue) → marked seen from ≡ true → IsOnCycle graph from
-cycle graph ranks from seen queue s m = s.reached from m
 
 pub no_rank : (graph : Graph) (ranks : List ℕ) (from : ℕ) → NeverRise graph ranks → ((u : ℕ) → HasEdge graph from u → entry ranks u ≡ entry ranks from → ⊥) → IsOnCycle graph from → ⊥
 no_rank graph ranks from f h o = h o.walk.0 o.walk.1 (first_step graph ranks from f o)

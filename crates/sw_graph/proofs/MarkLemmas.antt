@@ -57,12 +57,12 @@ marked_set table i t h m = go (same' t i)
 
 -- ---- lists that grow
 
-get_push : {X : Type 0} (xs : List X) (x : X) (k : ℕ) → k < length xs → slice_get (xs ++ x ∷ []) k ≡ slice_get xs k
+pub get_push : {X : Type 0} (xs : List X) (x : X) (k : ℕ) → k < length xs → slice_get (xs ++ x ∷ []) k ≡ slice_get xs k
 get_push [] x k h = absurd (omega arith)
 get_push (y ∷ xs) x zero h = refl
 get_push (y ∷ xs) x (suc k) h = get_push xs x k (omega arith)
 
-get_end : {X : Type 0} (xs : List X) (x : X) → slice_get (xs ++ x ∷ []) (length xs) ≡ Some x
+pub get_end : {X : Type 0} (xs : List X) (x : X) → slice_get (xs ++ x ∷ []) (length xs) ≡ Some x
 get_end [] x = refl
 get_end (y ∷ xs) x = let e : length (y ∷ xs) ≡ suc (length xs) = omega arith in ap (λ n. slice_get (y ∷ (xs ++ x ∷ [])) n) e ∙ get_end xs x
 

@@ -1,5 +1,5 @@
 -- Walks, and the numbers that stand on a cycle.
-use Rattle.std.specs.Prelude.{◌≡◌, ℕ, zero, suc, ◌<◌, ◌≤◌, Bool, true, List, length}
+use Rattle.std.specs.Prelude.{◌≡◌, ℕ, zero, suc, ◌≤◌, Bool, true, List, length}
 use Rattle.sw_graph.specs.Graphs.{Graph, HasEdge, marked, entry}
 
 -- a walk of so many edges leads from a to b
@@ -15,16 +15,11 @@ pub record Reaches (graph : Graph) (a b : ℕ) : Type 0 where
 abbrev pub IsOnCycle : Graph → ℕ → Type 0
 IsOnCycle graph a = Reaches graph a a
 
--- below a bound no number that is marked stands on a cycle
-pub record NoneOnCycle (graph : Graph) (chosen : List Bool) (bound : ℕ) : Type 0 where
-  pub each : (a : ℕ) → a < bound → marked chosen a ≡ true → IsOnCycle graph a → ⊥
-
--- the first number that is marked and stands on a cycle
-pub record IsFirstOnCycle (graph : Graph) (chosen : List Bool) (a : ℕ) : Type 0 where
-  pub within : a < length graph
-  pub is_chosen : marked chosen a ≡ true
-  pub cycle : IsOnCycle graph a
-  pub first : NoneOnCycle graph chosen a
+-- the table marks exactly the chosen numbers that stand on a cycle
+pub record AreOnCycles (graph : Graph) (chosen table : List Bool) : Type 0 where
+  pub length : length table ≡ length graph
+  pub only : (a : ℕ) → marked table a ≡ true → (marked chosen a ≡ true) × IsOnCycle graph a
+  pub all : (a : ℕ) → marked chosen a ≡ true → IsOnCycle graph a → marked table a ≡ true
 
 -- no successor of a number has a higher rank
 pub record NeverRise (graph : Graph) (ranks : List ℕ) : Type 0 where

@@ -10,8 +10,9 @@ mod cycles;
 mod least_sets;
 mod longest;
 mod marks;
+mod turned;
 
 pub use components::{Ranked, ranks};
-pub use cycles::first_on_cycle;
+pub use cycles::on_cycles;
 pub use least_sets::least;
 pub use longest::levels;

@@ -2,6 +2,7 @@
 use Rattle.std.proofs.Common.{◌≡◌, ℕ, zero, suc, ◌+◌, ◌-◌, ◌<◌, ◌≤◌, nat_eq, Bool, true, false, ◌&&◌, List, [], ◌∷◌, length, map, cond, refl, sym, ap, ◌∙◌, subst, arith, unwrap_or}
 use mathlib.Core.Logic.{◌⊎◌, inl, inr}
 use Rattle.std.specs.List.{slice_get, list_all}
+use Rattle.std.proofs.lemmas.Option.{slice_get_past}
 use Rattle.std.proofs.lemmas.Bool.Decides.{nat_tests}
 use Rattle.sw_value.specs.declared.kinds.Kind.{Kind}
 use Rattle.sw_graph.specs.Graphs.{Graph, HasEdge, successors, marked}
@@ -9,9 +10,9 @@ use Rattle.sw_graph.specs.Least.{IsInEachClosed, IsLeast}
 use Rattle.sw_graph.specs.Levels.{HasStep, HasWalk}
 use Rattle.sw_holding.specs.Holds.{is_value, is_protocol, is_protocol_form, Holds}
 use Rattle.sw_holding.specs.Levels.{HasChain, Begins, IsLevel, AreLevels}
-use Rattle.sw_holding.specs.Above.{IsAbove}
-use Rattle.sw_holding.specs.Edges.{IsHolding, AreBounded, NoneAbove}
-use Rattle.sw_holding.proofs.Lists.{true≢, both_true, and_true, Has, has_from, contains_from, within', last'}
+use Rattle.sw_holding.specs.Above.{IsAbove, AreAbove}
+use Rattle.sw_holding.specs.Edges.{IsHolding, AreBounded}
+use Rattle.sw_holding.proofs.Lists.{true≢, both_true, and_true, not_false, Has, has_from, contains_from, within', last'}
 use Rattle.sw_holding.proofs.HoldsLemmas.{apart, value_within, protocol_within, edge_value, edge_protocol, held_edge, FromValue, Led}
 use Rattle.sw_holding.proofs.LevelLemmas.{no_steps, longer, rest, chain_value, shorter_by, walk_chain, chain_walk}
 use Rattle.sw_holding.proofs.MemberLemmas.{each_in, in_each}
@@ -227,7 +228,7 @@ module _ (kinds : List Kind) (graph : Graph) (h : IsHolding kinds graph) where
       all = λ t n v f. in_least n t v f;
     }
 
--- ---- the first level above 64
+-- ---- levels above 64
 
 begins_chain : (kinds : List Kind) (n t : ℕ) → is_value (slice_get kinds t) ≡ true → Begins kinds n t → HasChain kinds n t
 begins_chain kinds n t v (inl c) = c
@@ -253,10 +254,10 @@ zero_is n e = grind (arith, nat_tests)
 is_zero : (n : ℕ) → n ≡ 0 → nat_eq n 0 ≡ true
 is_zero n e = ap (λ m. nat_eq m 0) e
 
-abbrev test : List Kind → List ℕ → List Bool → ℕ → Bool
+abbrev pub test : List Kind → List ℕ → List Bool → ℕ → Bool
 test kinds levels bounded t = is_value (slice_get kinds t) && (marked bounded t && nat_eq (unwrap_or (slice_get levels t) 0) 0)
 
-pub above : (kinds : List Kind) (levels : List ℕ) (bounded : List Bool) (t : ℕ) → AreLevels kinds levels → AreBounded kinds bounded → test kinds levels bounded t ≡ true → IsAbove kinds t
+above : (kinds : List Kind) (levels : List ℕ) (bounded : List Bool) (t : ℕ) → AreLevels kinds levels → AreBounded kinds bounded → test kinds levels bounded t ≡ true → IsAbove kinds t
 above kinds levels bounded t l b e =
     let x = both_true (is_value (slice_get kinds t)) (marked bounded t && nat_eq (unwrap_or (slice_get levels t) 0) 0) e in
     let y = both_true (marked bounded t) (nat_eq (unwrap_or (slice_get levels t) 0) 0) x.1 in
@@ -281,12 +282,13 @@ not_above kinds levels bounded t l b e a =
     true≢ (sym e ∙ and_true (is_value (slice_get kinds t)) (marked bounded t && nat_eq (unwrap_or (slice_get levels t) 0) 0) v
     (and_true (marked bounded t) (nat_eq (unwrap_or (slice_get levels t) 0) 0) (b.all t (suc a.steps) v a.longest) (is_zero (unwrap_or (slice_get levels t) 0) z)))
 
-pub none_more : (kinds : List Kind) (levels : List ℕ) (bounded : List Bool) (t : ℕ) → AreLevels kinds levels → AreBounded kinds bounded → test kinds levels bounded t ≡ false → NoneAbove kinds t → NoneAbove kinds (t + 1)
-none_more kinds levels bounded t l b e n = record { each = λ u k. go u (last' u t k) }
-  where
-    go : (u : ℕ) → (u < t) ⊎ (u ≡ t) → IsAbove kinds u → ⊥
-    go u (inl k) = n.each u k
-    go u (inr q) = subst (λ x. IsAbove kinds x → ⊥) (sym q) (not_above kinds levels bounded t l b e)
+-- past the end there is no struct or enum
+pub test_past : (kinds : List Kind) (levels : List ℕ) (bounded : List Bool) (t : ℕ) → length kinds ≤ t → test kinds levels bounded t ≡ false
+test_past kinds levels bounded t h = ap (λ o. is_value o && (marked bounded t && nat_eq (unwrap_or (slice_get levels t) 0) 0)) (slice_get_past kinds t h)
 
-pub none_at_all : (kinds : List Kind) (t : ℕ) → length kinds ≤ t → NoneAbove kinds t → (u : ℕ) → IsAbove kinds u → ⊥
-none_at_all kinds t e n u a = let w = value_within kinds u (chain_value kinds a.steps u a.chain) in n.each u (omega arith) a
+pub are_above : (kinds : List Kind) (levels : List ℕ) (bounded table : List Bool) → AreLevels kinds levels → AreBounded kinds bounded → length table ≡ length kinds → ((t : ℕ) → marked table t ≡ test kinds levels bounded t) → AreAbove kinds table
+are_above kinds levels bounded table l b size each = record {
+  length = size;
+  only = λ t m. above kinds levels bounded t l b (sym (each t) ∙ m);
+  all = λ t a. each t ∙ not_false (test kinds levels bounded t) (λ e. not_above kinds levels bounded t l b e a);
+}

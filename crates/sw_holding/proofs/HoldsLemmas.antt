@@ -1,8 +1,7 @@
 -- The edges of the graph, and what is held.
-use Rattle.std.proofs.Common.{◌≡◌, ℕ, zero, suc, ◌<◌, Bool, true, false, List, length, map, refl, sym, ap, ◌∙◌, subst, arith, Option, Some, None, Result, Ok, Err}
+use Rattle.std.proofs.Common.{◌≡◌, ℕ, zero, suc, ◌<◌, Bool, true, false, List, length, map, refl, sym, ap, ◌∙◌, subst, Option, Some, None, Result, Ok, Err}
 use mathlib.Core.Logic.{◌⊎◌, inl, inr}
 use Rattle.std.specs.List.{slice_get}
-use Rattle.std.specs.Option.{IfSome, IfNone}
 use Rattle.std.specs.Prelude.{IfOk}
 use Rattle.std.proofs.lemmas.Option.{slice_get_within}
 use Rattle.sw_value.specs.declared.ty.Base.{Base}
@@ -13,8 +12,8 @@ use Rattle.sw_value.specs.declared.kinds.Form.{Form}
 use Rattle.sw_value.specs.declared.kinds.Form.TheVariants as form
 use Rattle.sw_value.specs.Kinds.{has_parts, parts_in, parts_of}
 use Rattle.sw_graph.specs.Graphs.{Graph, HasEdge, marked}
-use Rattle.sw_graph.specs.Cycles.{Walk, IsOnCycle, NoneOnCycle, IsFirstOnCycle}
-use Rattle.sw_holding.specs.Holds.{is_value, is_protocol, is_protocol_form, Conforms, Includes, Holds, Leads, HoldsItself, IsFirst}
+use Rattle.sw_graph.specs.Cycles.{Walk, IsOnCycle, AreOnCycles}
+use Rattle.sw_holding.specs.Holds.{is_value, is_protocol, is_protocol_form, Conforms, Includes, Holds, Leads, HoldsItself, AreCircular}
 use Rattle.sw_holding.specs.Edges.{bases_of, where_true, held_number, held_by, IsOfProtocol, IsEdge, IsHolding}
 use Rattle.sw_holding.proofs.Lists.{true≢, Has, has_from, contains_from, in_one, of_one, entry_map}
 
@@ -201,12 +200,12 @@ module _ (kinds : List Kind) (graph : Graph) (h : IsHolding kinds graph) where
     chosen_at : (t : ℕ) → marked chosen t ≡ is_value (slice_get kinds t)
     chosen_at t = ap (λ xs. marked xs t) is ∙ entry_map (λ (kind : Kind). has_parts kind.form) false is_value refl (λ k. refl) kinds t
 
-    none_below : (bound : ℕ) → NoneOnCycle graph chosen bound → (t : ℕ) → t < bound → HoldsItself kinds t → ⊥
-    none_below bound n t l c = n.each t l (chosen_at t ∙ value_from kinds t c.chain.0 c.chain.1) (cycle t c)
-
-    pub first_circle : (o : Option ℕ) → IfSome o (IsFirstOnCycle graph chosen) → IfNone o (NoneOnCycle graph chosen (length graph)) → IsFirst (HoldsItself kinds) o
-    first_circle None s n = λ t c. let w = value_within kinds t (value_from kinds t c.chain.0 c.chain.1) in none_below (length graph) n t (omega (arith, w, h.size)) c
-    first_circle (Some t) s n = (circle t (sym (chosen_at t) ∙ s.is_chosen) s.cycle, λ u l c. none_below t s.first u l c)
+    pub are_circular : (table : List Bool) → AreOnCycles graph chosen table → AreCircular kinds table
+    are_circular table c = record {
+      length = c.length ∙ h.size;
+      only = λ t m. let p = c.only t m in circle t (sym (chosen_at t) ∙ p.0) p.1;
+      all = λ t o. c.all t (chosen_at t ∙ value_from kinds t o.chain.0 o.chain.1) (cycle t o);
+    }
 
 -- what follows from two clauses of one result
 pub if_both : {A E : Type 0} (r : Result A E) (P Q R : A → Type 0) → ((a : A) → P a → Q a → R a) → IfOk r P → IfOk r Q → IfOk r R

@@ -139,18 +139,18 @@ get_end [] x = refl
 get_end (y ∷ xs) x = let e : length (y ∷ xs) ≡ suc (length xs) = omega arith in ap (λ n. slice_get (y ∷ (xs ++ x ∷ [])) n) e ∙ get_end xs x
 
 -- a table that grows by the value of a function goes on telling the function
-pub table_push : (f : ℕ → ℕ) (xs ys : List ℕ) (x n : ℕ) → ys ≡ xs ++ x ∷ [] → length xs ≡ n → x ≡ f n → ((k : ℕ) → k < n → unwrap_or (slice_get xs k) 0 ≡ f k)
-    → (k : ℕ) → k < n + 1 → unwrap_or (slice_get ys k) 0 ≡ f k
-table_push f xs ys x n more e is below k h = go (last' k n h)
+pub table_push : {X : Type 0} (d : X) (f : ℕ → X) (xs ys : List X) (x : X) (n : ℕ) → ys ≡ xs ++ x ∷ [] → length xs ≡ n → x ≡ f n → ((k : ℕ) → k < n → unwrap_or (slice_get xs k) d ≡ f k)
+    → (k : ℕ) → k < n + 1 → unwrap_or (slice_get ys k) d ≡ f k
+table_push d f xs ys x n more e is below k h = go (last' k n h)
   where
-    go : (k < n) ⊎ (k ≡ n) → unwrap_or (slice_get ys k) 0 ≡ f k
-    go (inl l) = ap (λ zs. unwrap_or (slice_get zs k) 0) more ∙ (ap (λ o. unwrap_or o 0) (get_push xs x k (omega arith)) ∙ below k l)
-    go (inr q) = ap (λ zs. unwrap_or (slice_get zs k) 0) more ∙ (ap (λ m. unwrap_or (slice_get (xs ++ x ∷ []) m) 0) (q ∙ sym e) ∙ (ap (λ o. unwrap_or o 0) (get_end xs x) ∙ (is ∙ ap f (sym q))))
+    go : (k < n) ⊎ (k ≡ n) → unwrap_or (slice_get ys k) d ≡ f k
+    go (inl l) = ap (λ zs. unwrap_or (slice_get zs k) d) more ∙ (ap (λ o. unwrap_or o d) (get_push xs x k (omega arith)) ∙ below k l)
+    go (inr q) = ap (λ zs. unwrap_or (slice_get zs k) d) more ∙ (ap (λ m. unwrap_or (slice_get (xs ++ x ∷ []) m) d) (q ∙ sym e) ∙ (ap (λ o. unwrap_or o d) (get_end xs x) ∙ (is ∙ ap f (sym q))))
 
--- a whole table tells the function, where that is 0 past its end
-pub table_whole : (f : ℕ → ℕ) (xs : List ℕ) (n : ℕ) → length xs ≡ n → ((k : ℕ) → n ≤ k → f k ≡ 0) → ((k : ℕ) → k < n → unwrap_or (slice_get xs k) 0 ≡ f k) → (k : ℕ) → unwrap_or (slice_get xs k) 0 ≡ f k
-table_whole f xs n e over below k = go (within' k n)
+-- a whole table tells the function, where that is the same past its end
+pub table_whole : {X : Type 0} (d : X) (f : ℕ → X) (xs : List X) (n : ℕ) → length xs ≡ n → ((k : ℕ) → n ≤ k → f k ≡ d) → ((k : ℕ) → k < n → unwrap_or (slice_get xs k) d ≡ f k) → (k : ℕ) → unwrap_or (slice_get xs k) d ≡ f k
+table_whole d f xs n e over below k = go (within' k n)
   where
-    go : (k < n) ⊎ (n ≤ k) → unwrap_or (slice_get xs k) 0 ≡ f k
+    go : (k < n) ⊎ (n ≤ k) → unwrap_or (slice_get xs k) d ≡ f k
     go (inl l) = below k l
-    go (inr l) = ap (λ o. unwrap_or o 0) (slice_get_past xs k (omega arith)) ∙ sym (over k l)
+    go (inr l) = ap (λ o. unwrap_or o d) (slice_get_past xs k (omega arith)) ∙ sym (over k l)

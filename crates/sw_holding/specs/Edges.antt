@@ -1,6 +1,6 @@
 -- How the answers are found: a table of types as a graph, in which a protocol is a number of its own. No public clause cites this
 -- module.
-use Rattle.std.specs.Prelude.{◌≡◌, ℕ, suc, pred, ◌<◌, ◌⊎◌, ◌&&◌, nat_le, Bool as Truth, true, false, List, [], ◌∷◌, length, map, slice_get, if◌then◌else◌, Option, Some, None}
+use Rattle.std.specs.Prelude.{◌≡◌, ℕ, suc, pred, ◌⊎◌, ◌&&◌, nat_le, Bool as Truth, true, false, List, [], ◌∷◌, length, map, slice_get, if◌then◌else◌, Option, Some, None}
 use Rattle.std.specs.List.{Contains, flat_map, list_all}
 use Rattle.sw_base.specs.declared.ids.TypeNo.{TypeNo}
 use Rattle.sw_value.specs.declared.ty.Base.{Base}
@@ -14,7 +14,6 @@ use Rattle.sw_value.specs.Codable.{among}
 use Rattle.sw_graph.specs.Graphs.{Graph, HasEdge}
 use Rattle.sw_holding.specs.Holds.{is_value, is_protocol, Conforms}
 use Rattle.sw_holding.specs.Levels.{HasChain}
-use Rattle.sw_holding.specs.Above.{IsAbove}
 use Rattle.sw_holding.specs.Members.{marked}
 
 abbrev pub bases_of : List Ty → List Base
@@ -85,10 +84,6 @@ settled (Some kind) walk = settled_form kind.form walk
 pub record AreBounded (kinds : List Kind) (table : List Truth) : Type 0 where
   pub only : (t : ℕ) → is_value (slice_get kinds t) ≡ true → marked table t ≡ true → (n : ℕ) × HasChain kinds n t × (HasChain kinds (suc n) t → ⊥)
   pub all : (t n : ℕ) → is_value (slice_get kinds t) ≡ true → (HasChain kinds n t → ⊥) → marked table t ≡ true
-
--- below a bound no level is above 64
-pub record NoneAbove (kinds : List Kind) (bound : ℕ) : Type 0 where
-  pub each : (t : ℕ) → t < bound → IsAbove kinds t → ⊥
 
 -- ---- what may cross
 

@@ -1,6 +1,6 @@
 -- Which struct or enum holds which: through arrays, optionals and payloads, and through `any` of a protocol, which holds each that
 -- conforms. `any Error` and the actors hold nothing.
-use Rattle.std.specs.Prelude.{◌≡◌, ℕ, zero, suc, ◌<◌, Bool as Truth, true, false, List, [], map, slice_get, Option, Some, None}
+use Rattle.std.specs.Prelude.{◌≡◌, ℕ, zero, suc, Bool as Truth, true, false, List, [], map, length, slice_get, Option, Some, None}
 use Rattle.std.specs.List.{Contains}
 use Rattle.sw_value.specs.declared.ty.Base.{Base}
 use Rattle.sw_value.specs.declared.ty.Base.TheVariants as base
@@ -9,6 +9,7 @@ use Rattle.sw_value.specs.declared.kinds.Kind.{Kind}
 use Rattle.sw_value.specs.declared.kinds.Form.{Form}
 use Rattle.sw_value.specs.declared.kinds.Form.TheVariants as form
 use Rattle.sw_value.specs.Kinds.{has_parts, parts_of}
+use Rattle.sw_holding.specs.Members.{marked}
 
 -- a struct or an enum
 abbrev pub is_value : Option Kind → Truth
@@ -56,7 +57,8 @@ pub record HoldsItself (kinds : List Kind) (t : ℕ) : Type 0 where
   pub steps : ℕ
   pub chain : Leads kinds (suc steps) t t
 
--- the first number of which this holds, and none where it holds of none
-abbrev pub IsFirst : (ℕ → Type 0) → Option ℕ → Type 0
-IsFirst P None = (t : ℕ) → P t → ⊥
-IsFirst P (Some t) = P t × ((u : ℕ) → u < t → P u → ⊥)
+-- the table marks exactly the structs and enums that hold themselves
+pub record AreCircular (kinds : List Kind) (table : List Truth) : Type 0 where
+  pub length : length table ≡ length kinds
+  pub only : (t : ℕ) → marked table t ≡ true → HoldsItself kinds t
+  pub all : (t : ℕ) → HoldsItself kinds t → marked table t ≡ true

@@ -1,10 +1,10 @@
-//! The first type whose level is too high.
+//! The types whose level is too high.
 
 ghost use Rattle.std.specs.Prelude.{◌≡◌, ◌<◌, ◌&&◌, ℕ, true, IfOk, nat_eq, slice_get, unwrap_or, length};
 ghost use Rattle.sw_holding.specs.Edges.{IsHolding, AreBounded};
-ghost use Rattle.sw_holding.specs.Holds.{IsFirst, is_value};
+ghost use Rattle.sw_holding.specs.Holds.{is_value};
 ghost use Rattle.sw_holding.specs.Levels.{AreLevels};
-ghost use Rattle.sw_holding.specs.Above.{IsAbove};
+ghost use Rattle.sw_holding.specs.Above.{AreAbove};
 ghost use Rattle.sw_holding.specs.Members.{marked};
 
 use crate::holding::level_of;
@@ -15,20 +15,20 @@ use sw_base::{Items, NoMemory};
 use sw_graph::least;
 use sw_value::Kind;
 
-/// The first struct or enum whose level is above 64.
-pub(crate) fn first_above(
+/// Tells of each number whether it is a struct or an enum whose level is above 64.
+pub(crate) fn all_above(
     alloc: Global,
     kinds: &[Kind],
     graph: &[Items<u32>],
     order: &[u32],
     levels: &[u8],
-) -> Result<Option<usize>, NoMemory>
+) -> Result<Vec<bool>, NoMemory>
     requires graph { IsHolding kinds.now graph.now }
     requires levels { AreLevels kinds.now levels.now }
-    ensures { IfOk result (IsFirst (IsAbove kinds.now)) }
+    ensures { IfOk result (λ table. AreAbove kinds.now table.items) }
 {
     let bounded = bounded(alloc, kinds, graph, order)?;
-    Ok(first_bounded(kinds, levels, bounded.as_slice()))
+    each_above(alloc, kinds, levels, bounded.as_slice())
 }
 
 // The numbers from which no walk leads to a circle.
@@ -54,17 +54,22 @@ fn all_of(alloc: Global, count: usize) -> Result<Vec<bool>, NoMemory>
     Ok(table)
 }
 
-fn first_bounded(kinds: &[Kind], levels: &[u8], bounded: &[bool]) -> Option<usize>
+// Of each number, whether it is one from which chains come to an end, and which has no level all the same.
+fn each_above(
+    alloc: Global,
+    kinds: &[Kind],
+    levels: &[u8],
+    bounded: &[bool],
+) -> Result<Vec<bool>, NoMemory>
     requires levels { AreLevels kinds.now levels.now }
     requires bounded { AreBounded kinds.now bounded.now }
-    ensures { IsFirst (IsAbove kinds.now) result }
+    ensures { IfOk result (λ table. AreAbove kinds.now table.items) }
 {
+    let mut table = Vec::with_capacity(alloc, kinds.len())?;
     for t in 0..kinds.len() {
-        if is_above(kinds, levels, bounded, t) {
-            return Some(t);
-        }
+        table.push(is_above(kinds, levels, bounded, t))?;
     }
-    None
+    Ok(table)
 }
 
 fn is_above(kinds: &[Kind], levels: &[u8], bounded: &[bool], t: usize) -> bool

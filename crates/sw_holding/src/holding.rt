@@ -3,47 +3,47 @@
 ghost use Rattle.std.specs.Prelude.{◌≡◌, ℕ, IfOk, map, length, slice_get, unwrap_or};
 ghost use Rattle.sw_graph.specs.Cycles.{NeverRise};
 ghost use Rattle.sw_holding.specs.Edges.{IsHolding, settled, settled_form, capped};
-ghost use Rattle.sw_holding.specs.Holds.{HoldsItself, IsFirst, is_protocol_form};
+ghost use Rattle.sw_holding.specs.Holds.{AreCircular, is_protocol_form};
 ghost use Rattle.sw_holding.specs.Levels.{AreLevels};
 ghost use Rattle.sw_holding.specs.Rules.{BreaksNoRule};
 ghost use Rattle.sw_value.specs.Settled.{IsSettled};
-ghost use Rattle.sw_holding.specs.Above.{IsAbove};
+ghost use Rattle.sw_holding.specs.Above.{AreAbove};
 ghost use Rattle.sw_value.specs.Kinds.{has_parts};
 
-use crate::above::first_above;
+use crate::above::all_above;
 use crate::edges::edges;
 use crate::parts::{has_parts, is_protocol_form};
 use std::alloc::Global;
 use sw_base::{Items, NoMemory};
-use sw_graph::{first_on_cycle, levels, ranks};
+use sw_graph::{levels, on_cycles, ranks};
 use sw_value::{Form, Kind};
 
 /// What is known of the types that hold one another.
 #[derive(Drop)]
 pub struct Holding {
-    /// The first struct or enum that holds itself, which breaks T5.
-    pub first_circular: Option<usize>,
+    /// Of each number, whether it is a struct or an enum that holds itself, which breaks T5.
+    pub circular: Vec<bool>,
     /// The level of each number: how many structs and enums stand on the longest chain in which each holds the next. That of
     /// a protocol is the greatest level of those that conform. 0 where there is none up to 64.
     pub levels: Items<u8>,
-    /// The first struct or enum whose level is above 64, which breaks T8. It reaches no circle.
-    pub first_above: Option<usize>,
+    /// Of each number, whether it is a struct or an enum whose level is above 64, which breaks T8. It reaches no circle.
+    pub above: Vec<bool>,
 }
 
-/// Tells which type is the first that holds itself, the level of each, and which is the first whose level is above 64. Where
+/// Tells which types hold themselves, the level of each, and of which the level is above 64. Where
 /// the table breaks none of the rules T3, T5, T6 and T8, these levels settle it, so that `Kinds::new` takes both. The only
 /// error is want of memory, which a table with more types than there are numbers has too.
 pub fn holding_of(alloc: Global, kinds: &[Kind]) -> Result<Holding, NoMemory>
-    ensures circular { IfOk result (λ holding. IsFirst (HoldsItself kinds.now) holding.first_circular) }
+    ensures circular { IfOk result (λ holding. AreCircular kinds.now holding.circular.items) }
     ensures levels { IfOk result (λ holding. AreLevels kinds.now holding.levels) }
     ensures settled { IfOk result (λ holding. BreaksNoRule kinds.now → IsSettled kinds.now holding.levels) }
-    ensures above { IfOk result (λ holding. IsFirst (IsAbove kinds.now) holding.first_above) }
+    ensures above { IfOk result (λ holding. AreAbove kinds.now holding.above.items) }
 {
     let graph = edges(alloc, kinds)?;
     let ranked = ranks(alloc, graph.as_slice())?;
-    let first_circular = first_circular(alloc, kinds, graph.as_slice(), ranked.ranks.as_slice())?;
+    let circular = circular(alloc, kinds, graph.as_slice(), ranked.ranks.as_slice())?;
     let levels = levels_in(alloc, kinds, graph.as_slice())?;
-    let first_above = first_above(
+    let above = all_above(
         alloc,
         kinds,
         graph.as_slice(),
@@ -51,24 +51,25 @@ pub fn holding_of(alloc: Global, kinds: &[Kind]) -> Result<Holding, NoMemory>
         levels.as_slice(),
     )?;
     Ok(Holding {
-        first_circular,
+        circular,
         levels,
-        first_above,
+        above,
     })
 }
 
-fn first_circular(
+// The structs and enums that hold themselves.
+fn circular(
     alloc: Global,
     kinds: &[Kind],
     graph: &[Items<u32>],
     ranks: &[u32],
-) -> Result<Option<usize>, NoMemory>
+) -> Result<Vec<bool>, NoMemory>
     requires graph { IsHolding kinds.now graph.now }
     requires ranks { NeverRise graph.now ranks.now }
-    ensures { IfOk result (IsFirst (HoldsItself kinds.now)) }
+    ensures { IfOk result (λ table. AreCircular kinds.now table.items) }
 {
     let chosen = values(alloc, kinds)?;
-    first_on_cycle(alloc, graph, ranks, chosen.as_slice())
+    on_cycles(alloc, graph, ranks, chosen.as_slice())
 }
 
 // The structs and enums.

@@ -1,5 +1,5 @@
-//! Which declared types hold which, over any table of types: the first that holds itself, the levels, the first whose level
-//! is too high, and the types that may cross between nodes while circles may be there.
+//! Which declared types hold which, over any table of types: those that hold themselves, the levels, those whose level is
+//! too high, and those that may cross between nodes while circles may be there.
 //!
 //! A type is told by its number, which is its index in the table.
 #![tactic(auto)]

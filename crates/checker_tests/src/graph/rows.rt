@@ -3,30 +3,47 @@
 //! A graph lists the successors of each number, from 0 on, parted by commas; `-` stands for none. A table of marks has a
 //! digit for each number.
 
-/// Behind the graph stand the numbers that are asked about. The answer is the first of them that stands on a cycle.
+/// Behind the graph stand the numbers that are chosen. The answer marks those of them that stand on a cycle.
 pub const CYCLES: &str = r##"
- / 1 => none
-- / 1 => none
-0 / 1 => 0
-0 / 0 => none
-1 - / 11 => none
-1 0 / 11 => 0
-1 2 0 / 111 => 0
-1 2 0 / 011 => 1
-1 2 0 / 001 => 2
+ / 1 => 
+- / 1 => 0
+0 / 1 => 1
+0 / 0 => 0
+1 - / 11 => 00
+1 0 / 11 => 11
+1 2 0 / 111 => 111
+1 2 0 / 011 => 011
+1 2 0 / 001 => 001
+1 2 0 / 000 => 000
+2 0 1 / 111 => 111
 -- 0 leads to a cycle, and stands on none
-1 2 1 / 111 => 1
-1 2 1 / 100 => none
+1 2 1 / 111 => 011
+1 2 1 / 100 => 000
+1 1 / 11 => 01
+-- 2 stands behind a cycle, and on none
+1 0,2 - / 111 => 110
+0,1 - / 11 => 10
 -- Two ways to one number are no cycle
-1,2 3 3 - / 1111 => none
+1,2 3 3 - / 1111 => 0000
 -- The second successor leads back
-1 2,0 - / 111 => 0
-1 0 3 2 / 0011 => 2
+1 2,0 - / 111 => 110
+1,1 0,0 / 11 => 11
+-- Two circles, apart, joined by an edge and joined by a number on none
+1 0 3 2 / 0011 => 0011
+1 0 3 2 / 1111 => 1111
+1 0 3 2 - / 10101 => 10100
+1 0,2 3 2 / 1111 => 1111
+1 0,2 3 4 3 / 11111 => 11011
+-- Two circles that share a number, and two that share an edge
+1 0,2 1 / 111 => 111
+1 2 0,1 / 111 => 111
+3 0 1 2 4,0 / 11111 => 11111
 -- Past the end of the graph there is no successor, and past the end of the table no mark
-9 / 1 => none
-1 9,0 / 11 => 0
-1 0 / 0 => none
-1 0 / 001 => none
+9 / 1 => 0
+1 9,0 / 11 => 11
+1 0 / 0 => 00
+1 0 / 1 => 10
+1 0 / 001 => 00
 "##;
 
 /// Behind the graph stand the numbers that are allowed. The answer marks the least set.

@@ -7,4 +7,4 @@ use Rattle.sw_graph.proofs.cycles.visit.Goals as goal
 pub loop-u-preserved : goal.loop-u-preserved
 loop-u-preserved c =
     let more : take (c.loop-u.u-index + 1) c.args.numbers.now ≡ take c.loop-u.u-index c.args.numbers.now ++ get_or c.args.numbers.now c.loop-u.u-index 0 ∷ [] = take_more c.args.numbers.now c.loop-u.u-index 0 (omega arith) in
-    subst (λ xs. Visited c.args.ranks.now c.args.rank xs c.args.seen.now.items c.args.queue.now.items c.visit_one.new.seen.items c.visit_one.new.queue.items) (sym more) (visited_join _ _ _ _ _ _ _ _ _ _ c.loop-u.invariant c.in_ok-visit_one.ensures)
+    subst (λ xs. Visited c.args.ranks.now c.args.rank xs c.args.seen.now.table.items c.args.seen.now.queue.items c.visit_one.new.seen.table.items c.visit_one.new.seen.queue.items) (sym more) (visited_join _ _ _ _ _ _ _ _ _ _ c.loop-u.invariant c.in_ok-visit_one.ensures)

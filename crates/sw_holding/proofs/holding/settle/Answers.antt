@@ -9,7 +9,7 @@ use Rattle.sw_holding.proofs.holding.settle.Goals as goal
 
 pub returns-clause-each : goal.returns-clause-each
 returns-clause-each c =
-    table_whole (λ k. settled (slice_get c.args.kinds.now k) (unwrap_or (slice_get c.args.walks.now k) 0)) c.loop-t.levels c.loop-t.t c.loop-t.invariant.count
+    table_whole 0 (λ k. settled (slice_get c.args.kinds.now k) (unwrap_or (slice_get c.args.walks.now k) 0)) c.loop-t.levels c.loop-t.t c.loop-t.invariant.count
     (λ k h. ap (λ o. settled o (unwrap_or (slice_get c.args.walks.now k) 0)) (slice_get_past c.args.kinds.now k (omega arith)))
     c.loop-t.invariant.below
 
@@ -21,5 +21,5 @@ loop-t-preserved c =
     c.settled.ensures ∙ (ap (λ (kind : Kind). settled_form kind.form c.level_of.result) (sym c.index-kinds-t.is) ∙ (ap (settled_form c.index-kinds-t.result.form) c.level_of.ensures ∙ sym (ap (λ o. settled o (unwrap_or (slice_get c.args.walks.now c.loop-t.t) 0)) at))) in
     record {
       count = omega (arith, simp length-append at (ap length more), c.loop-t.invariant.count);
-      below = table_push (λ k. settled (slice_get c.args.kinds.now k) (unwrap_or (slice_get c.args.walks.now k) 0)) c.loop-t.levels c.push.new.self c.settled.result c.loop-t.t more c.loop-t.invariant.count is c.loop-t.invariant.below;
+      below = table_push 0 (λ k. settled (slice_get c.args.kinds.now k) (unwrap_or (slice_get c.args.walks.now k) 0)) c.loop-t.levels c.push.new.self c.settled.result c.loop-t.t more c.loop-t.invariant.count is c.loop-t.invariant.below;
     }
