@@ -1,12 +1,15 @@
 //! Whether a requirement is met.
 
-ghost use Rattle.std.specs.Prelude.{◌≡◌};
+ghost use Rattle.std.specs.Prelude.{◌≡◌, true, [], unwrap_or};
 ghost use Rattle.std.specs.List.{list_any};
+ghost use Rattle.std.specs.Option.{option_copied};
 ghost use Rattle.sw_requirements.specs.Met.{is_met, is_property, is_required, meets, only_where, same_truth};
 
 use crate::lists::{same, same_labels, same_type, same_types};
+use crate::signatures::Funcs;
+use std::alloc::Global;
 use sw_base::Text;
-use sw_members::Declaration;
+use sw_members::{Declaration, Declarations, Side};
 use sw_type_table::{Requirement, Signature};
 use sw_typed::Entity;
 use sw_value::Ty;
@@ -38,10 +41,27 @@ fn meets(func: &Signature, required: &Signature) -> bool
                                 && only_where(required.is_mutating, func.is_mutating)))))))
 }
 
+/// Tells whether the func that is found by its name and labels meets what is required.
+fn first_meets(alloc: Global, funcs: &Funcs, required: &Signature) -> bool
+    ensures { result ≡ true → list_any (λ func. meets func required.now) funcs.now.list ≡ true }
+{
+    match funcs.list.get(funcs.place_of(alloc, required)) {
+        Some(func) => meets(func, required),
+        None => false,
+    }
+}
+
 fn any_meets(funcs: &[Signature], required: &Signature) -> bool
     ensures { result ≡ list_any (λ func. meets func required.now) funcs.now }
 {
     funcs.iter().any(|func| meets(func, required))
+}
+
+/// Tells whether a func meets what is required. All are looked through only where the one that is found does not.
+fn is_func_met(alloc: Global, funcs: &Funcs, required: &Signature) -> bool
+    ensures { result ≡ list_any (λ func. meets func required.now) funcs.now.list }
+{
+    first_meets(alloc, funcs, required) || any_meets(funcs.list.as_slice(), required)
 }
 
 /// Tells whether what a name names is a property, stored or computed.
@@ -68,18 +88,45 @@ fn is_required(name: &Text, t: &Option<Ty>, member: &Declaration) -> bool
             && (same(member.name.as_bytes(), name.as_bytes()) && same_type(&member.gives, t)))
 }
 
+/// Tells whether the member that is found by its name is such a property.
+fn first_is_required(members: &Declarations, name: &Text, t: &Option<Ty>) -> bool
+    ensures { result ≡ true → list_any (is_required name.now t.now) members.now ≡ true }
+{
+    match members.value_named(Side::Instance, name.as_bytes()) {
+        Some(member) => is_required(name, t, member),
+        None => false,
+    }
+}
+
 fn any_is_required(members: &[Declaration], name: &Text, t: &Option<Ty>) -> bool
     ensures { result ≡ list_any (is_required name.now t.now) members.now }
 {
     members.iter().any(|member| is_required(name, t, member))
 }
 
+/// Tells whether a member is such a property. All are looked through only where the one that is found is not.
+fn is_property_met(members: Option<&Declarations>, name: &Text, t: &Option<Ty>) -> bool
+    ensures { result ≡ list_any (is_required name.now t.now) (unwrap_or (option_copied members.entry) []) }
+{
+    match members {
+        Some(members) => {
+            first_is_required(members, name, t) || any_is_required(members.as_slice(), name, t)
+        }
+        None => false,
+    }
+}
+
 /// Tells whether one of these funcs, or one of the members, meets a requirement.
-pub(crate) fn is_met(funcs: &[Signature], members: &[Declaration], required: &Requirement) -> bool
-    ensures { result ≡ is_met funcs.now members.now required.now }
+pub(crate) fn is_met(
+    alloc: Global,
+    funcs: &Funcs,
+    members: Option<&Declarations>,
+    required: &Requirement,
+) -> bool
+    ensures { result ≡ is_met funcs.now.list (unwrap_or (option_copied members.entry) []) required.now }
 {
     match required {
-        Requirement::Func(required) => any_meets(funcs, required),
-        Requirement::Property(name, t) => any_is_required(members, name, t),
+        Requirement::Func(required) => is_func_met(alloc, funcs, required),
+        Requirement::Property(name, t) => is_property_met(members, name, t),
     }
 }

@@ -6,7 +6,8 @@ ghost use Rattle.sw_requirements.specs.Unmet.{item_signatures, member_signatures
 
 use std::alloc::Global;
 use sw_base::{Items, NoMemory};
-use sw_declared::{Members, Names};
+use sw_declared::{Members, Names, spelled};
+use sw_sight::Levels;
 use sw_tree::{Decl, EnumItem, Member};
 use sw_type_table::{Signature, signature};
 
@@ -75,7 +76,7 @@ fn of_items(
 }
 
 /// The signatures of the funcs that a struct or an enum writes.
-pub(crate) fn signatures(
+fn signatures(
     alloc: Global,
     names: &Names,
     own: &Members,
@@ -91,5 +92,56 @@ pub(crate) fn signatures(
         Decl::Protocol(_, _) => Ok(Items::new(alloc)),
         Decl::Actor(_, _) => Ok(Items::new(alloc)),
         Decl::Func(_) => Ok(Items::new(alloc)),
+    }
+}
+
+/// The funcs that a type writes.
+#[derive(Drop)]
+pub(crate) struct Funcs {
+    pub(crate) list: Items<Signature>,
+    /// By name and labels: where to look in the list first.
+    places: Levels,
+}
+
+/// Keeps the place of each func of the list by its name and labels.
+fn keep_places(
+    alloc: Global,
+    places: &mut Levels,
+    list: &[Signature],
+) -> Result<(), NoMemory> {
+    for place in 0..list.len() {
+        let func = &list[place];
+        let key = spelled(alloc, func.name.as_bytes(), func.labels.as_slice())?;
+        places.add(key.as_slice())?;
+        places.set(key.as_slice(), place);
+    }
+    Ok(())
+}
+
+/// The funcs that a struct or an enum writes.
+pub(crate) fn funcs_of(
+    alloc: Global,
+    names: &Names,
+    own: &Members,
+    decl: &Decl,
+) -> Result<Funcs, NoMemory>
+    ensures { IfOk result (λ funcs. funcs.list ≡ signatures names.now own.now decl.now) }
+{
+    let list = signatures(alloc, names, own, decl)?;
+    let mut places = Levels::new(alloc);
+    // no `?`, since each way out with the table alive costs the proof
+    match keep_places(alloc, &mut places, list.as_slice()) {
+        Ok(()) => Ok(Funcs { list, places }),
+        Err(NoMemory) => Err(NoMemory),
+    }
+}
+
+impl Funcs {
+    /// Where to look first for what is called so. Any answer will do, since all funcs are looked through after it.
+    pub(crate) fn place_of(&self, alloc: Global, required: &Signature) -> usize {
+        match spelled(alloc, required.name.as_bytes(), required.labels.as_slice()) {
+            Ok(key) => self.places.get(key.as_slice()),
+            Err(NoMemory) => 0,
+        }
     }
 }

@@ -1,35 +1,37 @@
 //! T2 at a declaration.
 
-ghost use Rattle.std.specs.Prelude.{◌≡◌, ◌+◌, IfOk, OnOk, OnErr, slice_get};
+ghost use Rattle.std.specs.Prelude.{◌≡◌, ◌+◌, [], not, IfOk, OnOk, OnErr, slice_get, unwrap_or};
 ghost use Rattle.std.specs.List.{list_all};
+ghost use Rattle.std.specs.Option.{option_copied};
 ghost use Rattle.sw_findings.specs.Found.{keep_all};
 ghost use Rattle.sw_typing.specs.Facts.{members_of};
 ghost use Rattle.sw_requirements.specs.Met.{is_met};
 ghost use Rattle.sw_requirements.specs.Unmet.{is_unmet, meets_all, protocols_of, requirements_at, unmet_broken};
 
 use crate::met::is_met;
-use crate::signatures::signatures;
+use crate::signatures::{Funcs, funcs_of};
 use std::alloc::Global;
+use std::collections::BTreeSet;
 use sw_base::{NoMemory, TypeNo};
 use sw_declared::{Members, Names};
 use sw_findings::Findings;
-use sw_members::Declaration;
+use sw_members::Declarations;
 use sw_rules::Rule;
 use sw_tree::Decl;
-use sw_type_table::{Requirement, Signature, TypeEntry};
+use sw_type_table::{Requirement, TypeEntry};
 use sw_typing::Facts;
 
-/// What is known of the members of the type before which so many stand.
+/// What is known of the members of the type before which so many stand; none where nothing is.
 #[tactic(auto, unfolding(sw_typing::specs::Facts::members_of))]
-fn members_at(known: &Facts, before: usize) -> &[Declaration]
-    ensures { result.now ≡ members_of (slice_get known.now.types (before + 1)) }
+fn members_at(known: &Facts, before: usize) -> Option<&Declarations>
+    ensures { unwrap_or (option_copied result) [] ≡ members_of (slice_get known.now.types (before + 1)) }
 {
     // the first is that of `DistributedCallError`
     match known.types.as_slice() {
-        [] => &[],
+        [] => None,
         [_, declared @ ..] => match declared.get(before) {
-            Some(facts) => facts.members.as_slice(),
-            None => &[],
+            Some(facts) => Some(&facts.members),
+            None => None,
         },
     }
 }
@@ -57,27 +59,53 @@ fn requirements_at(table: &[TypeEntry], number: TypeNo) -> &[Requirement]
     }
 }
 
-/// Tells whether all that a protocol requires is met.
-fn meets_each(requirements: &[Requirement], funcs: &[Signature], members: &[Declaration]) -> bool
-    ensures { result ≡ list_all (is_met funcs.now members.now) requirements.now }
+/// Tells whether each of these requirements is met.
+fn meets_each(
+    alloc: Global,
+    requirements: &[Requirement],
+    funcs: &Funcs,
+    members: Option<&Declarations>,
+) -> bool
+    ensures { result ≡ list_all (is_met funcs.now.list (unwrap_or (option_copied members.entry) [])) requirements.now }
 {
     requirements
         .iter()
-        .all(|required| is_met(funcs, members, required))
+        .all(|required| is_met(alloc, funcs, members, required))
 }
 
 /// Tells whether all that these protocols require is met.
 fn meets_all(
+    alloc: Global,
     table: &[TypeEntry],
-    funcs: &[Signature],
-    members: &[Declaration],
+    funcs: &Funcs,
+    members: Option<&Declarations>,
     protocols: &[TypeNo],
-) -> bool
-    ensures { result ≡ meets_all table.now funcs.now members.now protocols.now }
+) -> Result<bool, NoMemory>
+    ensures { IfOk result (λ met. met ≡ meets_all table.now funcs.now.list (unwrap_or (option_copied members.entry) []) protocols.now) }
 {
-    protocols
-        .iter()
-        .all(|number| meets_each(requirements_at(table, *number), funcs, members))
+    let mut seen = BTreeSet::new(alloc);
+    for number in protocols {
+        // a protocol that is listed again requires nothing more
+        let is_new = seen.insert(number.0)?;
+        if is_new && !meets_each(alloc, requirements_at(table, *number), funcs, members) {
+            return Ok(false);
+        }
+    }
+    Ok(true)
+}
+
+/// Tells whether something that these protocols require is not met.
+fn lacks(
+    alloc: Global,
+    table: &[TypeEntry],
+    funcs: &Funcs,
+    members: Option<&Declarations>,
+    protocols: &[TypeNo],
+) -> Result<bool, NoMemory>
+    ensures { IfOk result (λ lacks. lacks ≡ not (meets_all table.now funcs.now.list (unwrap_or (option_copied members.entry) []) protocols.now)) }
+{
+    let met = meets_all(alloc, table, funcs, members, protocols)?;
+    Ok(!met)
 }
 
 /// Tells whether a requirement of a protocol to which a type conforms is not met.
@@ -97,9 +125,10 @@ fn is_unmet(
     if protocols.is_empty() {
         return Ok(false);
     }
-    let funcs = signatures(alloc, names, own, decl)?;
-    let members = members_at(known, before);
-    Ok(!meets_all(table, funcs.as_slice(), members, protocols))
+    match funcs_of(alloc, names, own, decl) {
+        Ok(funcs) => lacks(alloc, table, &funcs, members_at(known, before), protocols),
+        Err(NoMemory) => Err(NoMemory),
+    }
 }
 
 /// Reports T2 at the name of a struct or an enum that does not meet all requirements of the declared protocols after its
