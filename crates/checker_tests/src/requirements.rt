@@ -57,7 +57,11 @@ fn first_unmet(
     let mut before: usize = 0;
     for decl in tree.decls.as_slice() {
         report(alloc, &mut found, source, before, decl)?;
-        if let Decl::Struct(_, _) | Decl::Enum(_, _) | Decl::Protocol(_, _) | Decl::Actor(_, _) = decl {
+        if let Decl::Struct(_, _)
+        | Decl::Enum(_, _)
+        | Decl::Protocol(_, _)
+        | Decl::Actor(_, _) = decl
+        {
             before = before.saturating_add(1);
         }
     }
@@ -184,7 +188,10 @@ fn an_inferred_type_counts(rt: HostRuntime) -> Result<(), Fail> {
     let alloc = rt.alloc();
     let accepted = Text::from_bytes(alloc, b"accepted")?;
     let unmet = Text::from_bytes(alloc, b"T2 2:8")?;
-    assert_eq!(rt; told_inferred(alloc, Some(ty_of(alloc, "[Int")?))?, accepted);
+    assert_eq!(rt;
+        told_inferred(alloc, Some(ty_of(alloc, "[Int")?))?,
+        accepted
+    );
     assert_eq!(rt; told_inferred(alloc, None)?, accepted);
     assert_eq!(rt; told_inferred(alloc, Some(ty_of(alloc, "[Str")?))?, unmet);
     assert_eq!(rt; told_inferred(alloc, Some(ty_of(alloc, "Int")?))?, unmet);

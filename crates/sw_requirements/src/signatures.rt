@@ -104,11 +104,7 @@ pub(crate) struct Funcs {
 }
 
 /// Keeps the place of each func of the list by its name and labels.
-fn keep_places(
-    alloc: Global,
-    places: &mut Levels,
-    list: &[Signature],
-) -> Result<(), NoMemory> {
+fn keep_places(alloc: Global, places: &mut Levels, list: &[Signature]) -> Result<(), NoMemory> {
     for place in 0..list.len() {
         let func = &list[place];
         let key = spelled(alloc, func.name.as_bytes(), func.labels.as_slice())?;

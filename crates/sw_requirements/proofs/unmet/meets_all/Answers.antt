@@ -39,7 +39,7 @@ loop-number-preserved c =
     let numbers = c.args.protocols.now in
     let i = c.loop-number.number-index in
     let here : list_all met (requirements_at table (get_or numbers i _)) ≡ true = elim c.else-is_new.branch [
-        else-is_new-via-then-is_new+else-not-meets_each w ↦ ap (list_all met) (sym w.requirements_at.ensures) ∙ sym w.meets_each.ensures ∙ w.if-not-meets_each.false
+      | else-is_new-via-then-is_new+else-not-meets_each w ↦ ap (list_all met) (sym w.requirements_at.ensures) ∙ sym w.meets_each.ensures ∙ w.if-not-meets_each.false
       | else-is_new-via-else-is_new w ↦ c.loop-number.invariant.seen _ (not_new _ _ c.in_ok-is_new.ensures.added w.if-is_new.false)
     ] in
     record {
