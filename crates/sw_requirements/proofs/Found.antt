@@ -1,5 +1,5 @@
 -- An element that was found in a list, at a place or by another test, and passes a test: then one of the list does.
-use Rattle.std.proofs.Common.{◌≡◌, ◌∙◌, ◌||◌, ℕ, Bool, true, false, cond, Option, Some, None, List, [], ◌∷◌, slice_get, get_or, refl, sym, ap, arith}
+use Rattle.std.proofs.Common.{◌≡◌, ◌∙◌, ◌||◌, ℕ, Bool, true, false, cond, Some, List, [], ◌∷◌, slice_get, refl, sym, ap, arith}
 use Rattle.std.proofs.lemmas.List.Folds.{list_any_at}
 use Rattle.std.proofs.lemmas.Option.{slice_get_within, get_or_from_slice_get, none-some}
 use Rattle.std.specs.List.{find, list_any}

@@ -1,7 +1,7 @@
 -- Two lists that are compared in step.
-use Rattle.std.proofs.Common.{◌≡◌, ◌<◌, ◌≤◌, ◌+◌, ◌∙◌, ◌&&◌, ℕ, Bool, true, false, List, [], ◌∷◌, length, drop, get_or, refl, sym, ap, arith}
+use Rattle.std.proofs.Common.{◌≡◌, ◌<◌, ◌≤◌, ◌+◌, ◌∙◌, ◌&&◌, ℕ, Bool, true, List, [], ◌∷◌, length, drop, get_or, refl, sym, ap, arith}
 use Rattle.std.proofs.lemmas.List.{drop_more, drop_all}
-use Rattle.std.specs.Cmp.Lexicographic.{pointwise, as_long}
+use Rattle.std.specs.Cmp.Lexicographic.{pointwise}
 use Rattle.sw_declared.specs.Members.{Label, same_label, same_labels}
 
 -- the first two that remain, and then the others

@@ -5,7 +5,6 @@ use Rattle.sw_base.specs.declared.ids.TypeNo.{TypeNo}
 use Rattle.sw_rules.specs.declared.Refusal.{Refusal}
 use Rattle.sw_rules.specs.declared.Rule.TheVariants.{T2}
 use Rattle.sw_findings.specs.Found.{when}
-use Rattle.sw_tree.specs.declared.decl.Heading.{Heading}
 use Rattle.sw_tree.specs.declared.decl.Decl.{Decl}
 use Rattle.sw_tree.specs.declared.decl.Decl.TheVariants as d
 use Rattle.sw_tree.specs.declared.decl.Member.{Member as TreeMember}

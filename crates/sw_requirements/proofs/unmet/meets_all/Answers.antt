@@ -1,7 +1,6 @@
 use Rattle.std.proofs.Common.{◌≡◌, ◌∙◌, ℕ, ◌+◌, ◌<◌, ◌&&◌, Bool, true, false, cond, not, List, [], take, length, get_or, unwrap_or, true≢false, refl, sym, ap, arith}
 use Rattle.std.proofs.lemmas.Grind.{common_steps}
 use Rattle.std.proofs.lemmas.List.Folds.{list_all_more, list_all_at}
-use Rattle.std.specs.BTreeSet as sorted
 use Rattle.std.specs.List.{list_all}
 use Rattle.std.specs.Option.{option_copied}
 use Rattle.std.specs.Ordering.{nat_cmp, is_eq}
