@@ -138,8 +138,8 @@ fn is_unmet(
 /// is known of them; `before` types stand before this one in the file.
 ///
 /// # Errors
-/// [`NoMemory`] where there is no memory for the signatures of the funcs of the type, or where the file declares more types
-/// than there are numbers. Then nothing is reported.
+/// [`NoMemory`] where there is no memory for the signatures of the funcs of the type or for what finds them, or where the
+/// file declares more types than there are numbers. Then nothing is reported.
 #[tactic(auto, using(crate::proofs::Findings::keep_none))]
 pub fn report_unmet(
     alloc: Global,
