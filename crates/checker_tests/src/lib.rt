@@ -13,6 +13,8 @@ mod graph;
 #[cfg(test)]
 mod holding;
 #[cfg(test)]
+mod requirements;
+#[cfg(test)]
 mod sharing;
 #[cfg(test)]
 mod tables;

@@ -12,4 +12,5 @@ mod table;
 pub use entry::{CaseEntry, Property, Requirement, Signature, TypeEntry, WrittenType};
 pub use finding::named_base;
 pub use marks::written;
+pub use requirements::signature;
 pub use table::type_table;

@@ -45,7 +45,12 @@ fn parameter_types(
     Ok(types)
 }
 
-fn signature(
+/// The name, the parameters and the result of a func that a type with these members writes, or that a protocol, which has
+/// none, requires.
+///
+/// # Errors
+/// [`NoMemory`] where there is no memory for them, or where the file declares more types than there are numbers.
+pub fn signature(
     alloc: Global,
     names: &Names,
     own: &Members,

@@ -1,0 +1,4 @@
+-- Lemmas of this crate.
+pub mod Findings
+pub mod Found
+pub mod Pairs
